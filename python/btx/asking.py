@@ -14,13 +14,12 @@ from dataclasses import asdict, dataclass
 from typing import FrozenSet, Iterable, List, Set, Tuple
 
 from .checkup import Refused, named_style
-from .commands import STATUS_REFUSED, Words, broken_pipe, in_words, print_text
+from .commands import STATUS_REFUSED, Words, broken_pipe, in_words, print_text, shown
 from .events import Met
 from .jobs import run
 from .messages import Kind, Message
 from .reaching import Reach
 from .reading import lowered
-from .reports import shown
 from .results import End
 from .searching import search_from
 from .standard import TYPES

@@ -35,7 +35,7 @@ IS_NAME = re.compile(rb"[ \t\r\n]*(" + NAME + rb")")
 BEGINS_ITEM = re.compile(rb"@[ \t\r\n]*(" + NAME + rb")?")
 OPENS_ITEM = re.compile(rb"[ \t\r\n]*[{(][ \t\r\n]*")
 # A text ends with one of these, if no name ends there.
-ENDS_TEXT = b'}"'
+ENDS_TEXT, BEGINS_TEXT = b'}"', b'{"'
 # The bytes that don't begin a character of UTF-8.
 CONTINUES = frozenset(bytes([byte]) for byte in range(0x80, 0xC0))
 
@@ -174,6 +174,8 @@ class Database:
         self.own_strings = strings
         self.reader = reader
         self.starts: Optional[List[int]] = None
+        # The names of strings in values, by the text from the `=` on: where each is in that text. Many values of a database are the same.
+        self.names_of_values: Dict[bytes, Tuple[Tuple[int, int], ...]] = {}
 
     def make(self) -> None:
         """Makes the items and the strings."""
@@ -261,6 +263,15 @@ class Database:
         if self.text[start] in b'{"' and self.is_text(field):
             return self.text[start + 1 : end - 1]
         return self.text[start:end]
+
+    def text_at(self, records: Records, number: int) -> Optional[Tuple[int, bytes]]:
+        """Where the value of a field begins that is one text or number, and its text, as `raw` has it; None where it is something else."""
+        text, end = self.text, records.ends[number]
+        after = text.index(b"=", records.starts[number] + records.name_len[number]) + 1
+        if (text[end - 1] not in ENDS_TEXT or text.find(b"#", after, end) >= 0) and not self.is_text(field_of(records, number)):
+            return None
+        start = SKIPS_WHITE.match(text, after).end()  # type: ignore[union-attr]
+        return (start, text[start + 1 : end - 1]) if text[start] in BEGINS_TEXT else (start, text[start:end])
 
     def names(self, field: Field) -> List[Part]:
         """The names of strings in a value."""
@@ -549,10 +560,17 @@ def undefined_strings(database: Database, strings: Set[bytes], items: Optional[L
 
 def undefined_of(database: Database, item: Item, strings: Set[bytes]) -> Iterator[Undefined]:
     """The names without a string in the fields of an entry. Of fields with the same name the first counts."""
-    records, first = item.records, item.at + 1
+    records, first, text, known = item.records, item.at + 1, database.text, database.names_of_values
     for number in records.lacking(first, item.last):
-        if records.name(number) not in records.names_between(first, number):
-            yield from undefined_in(database, item, field_of(records, number), None, strings)
+        after = text.index(b"=", records.starts[number] + records.name_len[number]) + 1
+        value = text[after : records.ends[number]]
+        places = known.get(value)
+        if places is None:
+            places = known[value] = tuple((part.start - after, part.end - after) for part in database.names(field_of(records, number)))
+        lacking = [place for place in places if value[slice(*place)].lower() not in strings] if places else ()
+        if lacking and records.name(number) not in records.names_between(first, number):
+            for start, end in lacking:
+                yield Undefined(Part(after + start, after + end, True), item, records.name(number), False)
 
 
 def undefined_in(database: Database, item: Item, field: Field, own: Optional[bytes], strings: Set[bytes]) -> Iterator[Undefined]:

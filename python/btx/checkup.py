@@ -9,39 +9,40 @@ import os
 import re
 import sys
 from functools import cached_property, partial
-from typing import Callable, Dict, FrozenSet, Iterator, List, NamedTuple, Optional, Set, Tuple
+from typing import TYPE_CHECKING, Callable, Dict, FrozenSet, Iterator, List, NamedTuple, Optional, Set, Tuple
 
-from .bibtext import Database, Lines
-from .bsttext import Word, read_style
-from .commands import STATUS_REFUSED, Words, broken_pipe, in_words
-from .doctor import CHECKS, Citation, Finding, Source, Style, examine, lines_of, without_unread
-from .doctor_run import findings_of_run, in_order_of_job, stem_of
-from .document_checks import documents_of, findings_of_documents
+from .bibtext import REPEATED, Database, Lines
+from .commands import STATUS_DEVICE, STATUS_REFUSED, Words, broken_pipe, in_words, shown, stem_of
+from .doctor import CHECKS, Citation, Elsewhere, Finding, Source, Style, examine, lines_of, without_unread
 from .known import Known
-from .remedies import SEEN, field_for_each_name, missed_field, not_hidden, of_items, of_missing, remedy_of, said
-from .reports import shown
+from .reading import without_collection
+from .remedies import GENERAL, SEEN, begins_item, begins_month, field_for_each_name, missed_field, not_hidden, of_items, of_missing, remedy_of, said
 from .searching import MOST_BYTES, Search, content_of, found_search
-from .trying import Printing
 from .usual import FIELDS, near_type
+
+if TYPE_CHECKING:
+    from .bsttext import Word
+    from .trying import Printing
 
 __all__ = ["citations_of", "main"]
 
 STATUS_MISTAKES = 2
-STATUS_DEVICE = 6
 # A line of an .aux file whose argument counts.
 COMMAND = re.compile(rb"(?m)^\\(citation|@input)\{([^}\r\n \t]*)\}\r?$")
 BIBSTYLE = re.compile(rb"(?m)^\\bibstyle\{([^}\r\n \t]*)\}\r?$")
 BIBDATA = re.compile(rb"(?m)^\\bibdata\{([^}\r\n \t]*)\}\r?$")
 # What a finding says that an entry lacks; where a style declares its fields.
-MISSING = re.compile("the field (.*) is missing")
+MISSING = re.compile("(?:.* warns where )?the field (.*) is missing")
 BEGINS_FIELDS = re.compile(rb"(?im)^[ \t]*entry\b")
 MOST_AUX = 1000
 # How much of two names of a field is the same where one may be meant by the other.
 LEAST_ALIKE = 0.75
 # How many entries that nothing cites are named in the line for all.
 MOST_NAMED = 5
+# How many findings are printed at once.
+AT_ONCE = 1000
 # What the run of a job says itself, as far as it counts there.
-SAID_BY_RUN = frozenset(("missing-field", "missing-in-parent", "unusual-type", "parent-above"))
+SAID_BY_RUN = frozenset(("missing-field", "missed-field", "missing-in-parent", "unusual-type", "parent-above", "no-parent", "nested-parent"))
 # What to do about the findings of checks whose texts don't say it.
 OF_CHECKS = {
     "long-value": "shorten it, or divide it: a run stores at most 1,000,000 bytes of a value",
@@ -81,7 +82,9 @@ def main(words: List[str]) -> int:
         if given.list:
             print_table()
             return 0
-        return check_up(given)
+        # (what is read and found is kept to the end, so there is no garbage to be looked for)
+        with without_collection():
+            return check_up(given)
     except Refused as error:
         print(f"btx: {shown(str(error))}", file=sys.stderr)
         return STATUS_REFUSED
@@ -118,7 +121,8 @@ def check_up(given: argparse.Namespace) -> int:
     unknown = sorted(off - set(CHECKS))
     if unknown:
         raise Refused(f"there is no check {unknown[0]}: --list prints them")
-    search = found_search()
+    # (where neither a style nor a job is named, TeX's folders aren't looked through)
+    search = Search() if given.style is None and given.job is None else found_search()
     sources = [Source(path, content_of(os.fsencode(path), MOST_BYTES)) for path in given.databases or databases_of(given.job, search)]
     in_use = style_file(given.style, search) if given.style is not None else style_of_job(given.job, search)
     read_ones: Dict[int, Database] = {}
@@ -134,12 +138,16 @@ def findings_of(job: Optional[str], sources: List[Source], in_use: Optional[Styl
     style = None if in_use is None else Style(in_use.text, name=in_use.name)
     if job is None:
         return examine(sources, style, kept=kept), sources
+    from .doctor_run import findings_of_run, in_order_of_job
+    from .document_checks import documents_of, findings_of_documents
+
     auxes = list(aux_files(job))
     citations = [citation for aux in auxes for citation in citations_of_file(aux)]
     sources = in_order_of_job(sources, auxes)
     printing = None if style is None else style.printing
     named = None if in_use is None or in_use.is_of_job else style
-    found = [finding for finding in examine(sources, named, citations, printing=printing, kept=kept) if finding.check not in SAID_BY_RUN]
+    elsewhere = Elsewhere(os.path.basename(auxes[0].name), cited_elsewhere(auxes, sources))
+    found = [finding for finding in examine(sources, named, citations, printing=printing, kept=kept, elsewhere=elsewhere) if finding.check not in SAID_BY_RUN]
     entries = {item.key.lower(): item.key for source in sources for item in kept[id(source)].items if item.is_entry and item.key is not None}
     of_document, newer = findings_of_documents(documents_of(job), citations, entries)
     own_style = in_use.path if in_use is not None and in_use.is_of_job and in_use.is_own else None
@@ -208,10 +216,19 @@ class Remedies:
         return f"move {finding.text.split()[2]} below all entries that name it, or cite it"
 
     def of_repeated(self, finding: Finding, lines: Lines) -> Optional[str]:
-        """What to do about a second entry of a key, where another one was meant to be hidden."""
+        """What to do about a second entry of a key: where the first one stands, or which one was meant to be hidden."""
         source, key = finding.source, finding.key.encode("utf8", "surrogateescape").lower()
         hidden = self.once(lambda: next(filter(None, (not_hidden(source.name, source.text, lines, item) for item in self.known.of_key(source, key))), None), id(source), key)
-        return hidden or remedy_of(finding.text)
+        found = None if hidden is not None else self.known.entries.get(key)
+        if found is None:
+            return hidden or GENERAL[REPEATED]
+        its, first = found
+        return f"{GENERAL[REPEATED]}: the first is {begins_item(its.name, its.text, lines if its is source else lines_of(its, self.known.lines), first)}"
+
+    def of_hidden(self, finding: Finding, lines: Lines) -> Optional[str]:
+        """What to do about an entry that was meant to be hidden."""
+        item = self.known.around(finding.source, finding.start)
+        return None if item is None else not_hidden(finding.source.name, finding.source.text, lines, item)
 
     def of_missing(self, finding: Finding, lines: Lines) -> Optional[str]:
         """What to do about a field that an entry lacks, and its parent as well."""
@@ -243,6 +260,8 @@ class Remedies:
     @cached_property
     def style_fields(self) -> Tuple[List[Word], Lines]:
         """The fields that the style declares, and its lines."""
+        from .bsttext import read_style
+
         text = b"" if self.style is None else self.style.text
         return [word for word in read_style(text).definitions if word.kind == "field"], Lines(text)
 
@@ -266,17 +285,29 @@ class Remedies:
         name = finding.source.text[finding.start : finding.end].lower()
         source, item = self.known.strings.get(name, (None, None))
         if source is None or item is None:
-            return remedy_of(finding.text, strings=self.known.names)
+            may_be_month = self.is_in_month(finding) or begins_month(name.decode("utf8", "replace"))
+            return remedy_of(finding.text, strings=self.known.names if may_be_month else self.known.names_beside_months)
         if source is finding.source:
             return said(SEEN["DefinedBelow"], name.decode("utf8", "replace"), f"{source.name}:{self.known.line_of(source, item.start)}")
         order = [it for it in self.sources if it is not source]
         order.insert(next(at for at, it in enumerate(order) if it is finding.source), source)
         return said(SEEN["DefinedInLater"], ",".join(stem_of(it.name) for it in order), source.name)
 
+    def is_in_month(self, finding: Finding) -> bool:
+        """Whether a finding is in the field `month` of an entry, where a month may be meant."""
+        item = self.known.around(finding.source, finding.start)
+        return item is not None and any(field.name == b"month" and field.after <= finding.start < field.end for field in item.fields)
+
     def of_warning(self, finding: Finding, lines: Lines) -> Optional[str]:
         """What to do about a style's warning of an entry."""
         item = self.known.around(finding.source, finding.start)
         return missed_field(item, finding.text) if item is not None and item.key_end == finding.end else None
+
+    def of_logged(self, finding: Finding, lines: Lines) -> Optional[str]:
+        """What to do about an error that a run of the job logs."""
+        from .document_checks import remedy_by_document
+
+        return of_aux(finding) or remedy_by_document(finding.text, finding.source.name) or remedy_of(finding.text, self.known.keys if finding.key else ())
 
     def of_entry(self, finding: Finding, lines: Lines) -> Optional[str]:
         """What to do about a citation without an entry: one without a key may be meant."""
@@ -293,14 +324,17 @@ class Remedies:
     by_check: Dict[str, Callable[..., Optional[str]]] = {
         "mistake": of_mistake,
         "repeated-key": of_repeated,
+        "not-hidden": of_hidden,
         "repeated-field": of_repeated_field,
         "unusual-type": of_type,
         "missing-field": of_missing,
+        "missed-field": of_missing,
         "missing-in-parent": of_missing,
         "parent-above": of_parent,
         "unread-field": of_unread,
         "unprinted-field": of_unprinted,
         "undefined-string": of_string,
+        "logged-error": of_logged,
         "logged-warning": of_warning,
         "no-entry": of_entry,
     }
@@ -383,6 +417,21 @@ def aux_files(job: str) -> Iterator[Source]:
         waiting[:0] = filter(None, (existing(os.fsdecode(it[2]), folder) for it in found))
 
 
+def cited_elsewhere(auxes: List[Source], sources: List[Source]) -> FrozenSet[bytes]:
+    """The keys, in lower case, that other `.aux` files of the job's folder cite from one of these databases: packages such as multibib and bibunits have several for a document."""
+    folder = os.path.dirname(auxes[0].name)
+    own, stems = {aux.name for aux in auxes}, {stem_of(source.name) for source in sources}
+    names = sorted(name for name in os.listdir(folder or os.curdir) if name.endswith(".aux"))
+    others = [path for path in (os.path.join(folder, name) for name in names[:MOST_AUX]) if path not in own and os.path.isfile(path)]
+    found = (aux for aux in (Source(path, content_of(os.fsencode(path), MOST_BYTES)) for path in others) if not stems.isdisjoint(named_databases(aux.text)))
+    return frozenset(citation.key.lower() for aux in found for citation in citations_of(aux.name))
+
+
+def named_databases(aux: bytes) -> List[str]:
+    """The databases that an .aux file names, without folders and endings."""
+    return [stem_of(os.fsdecode(name)) for found in BIBDATA.finditer(aux) for name in found[1].split(b",")]
+
+
 def citations_of(job: str) -> Iterator[Citation]:
     """The citations of a job's .aux files."""
     for source in aux_files(job):
@@ -412,26 +461,30 @@ def print_findings(found: List[Finding], remedies: Remedies, given: argparse.Nam
     """Prints all findings. For people those of entries that nothing cites are one line, which comes last."""
     lines = remedies.known.lines
     summed = [] if given.json or given.each else [finding for finding in found if finding.check == "uncited"]
-    for finding in found:
-        if not summed or finding.check != "uncited":
-            print_finding(finding, lines_of(finding.source, lines), remedies, given.json)
+    shown_ones = [finding for finding in found if finding.check != "uncited"] if summed else found
+    text_of = json_of if given.json else text_for_people
+    # (many lines are printed at once)
+    for first in range(0, len(shown_ones), AT_ONCE):
+        sys.stdout.write("".join([text_of(finding, lines_of(finding.source, lines), remedies) for finding in shown_ones[first : first + AT_ONCE]]))
     if summed:
         names = ", ".join(finding.key for finding in summed[:MOST_NAMED]) + (", .." if len(summed) > MOST_NAMED else "")
         entries = "1 entry is" if len(summed) == 1 else f"{len(summed)} entries are"
-        print(f"{entries} cited by nothing: {shown(names)} (--each prints a line for each) [uncited]")
+        print(f"{entries} {shown(summed[0].text)}: {shown(names)} (--each prints a line for each) [uncited]")
 
 
-def print_finding(finding: Finding, lines: Lines, remedies: Remedies, as_json: bool) -> None:
-    """Prints a finding: its line and columns are counted from 1, in characters; `end` is where it ends, on the line `end_line`."""
+def text_for_people(finding: Finding, lines: Lines, remedies: Remedies) -> str:
+    """A finding in a line, with its place, whose line and column are counted from 1, in characters; and what to do about it in another one."""
+    line, column = lines.at(finding.start)
+    key = f" ({finding.key})" if finding.key else ""
+    said_of = shown(f"{finding.source.name}:{line + 1}:{column + 1}: {CHECKS[finding.check].severity}: {finding.text}{key} [{finding.check}]")
+    remedy = remedies.of(finding, lines)
+    return f"{said_of}\n" if remedy is None else f"{said_of}\n    what to do: {shown(remedy)}\n"
+
+
+def json_of(finding: Finding, lines: Lines, remedies: Remedies) -> str:
+    """A finding as a line of JSON: its line and columns are counted from 1, in characters; `end` is where it ends, on the line `end_line`."""
     line, column = lines.at(finding.start)
     end_line, end = lines.at(finding.end, is_end=True)
-    remedy = remedies.of(finding, lines)
-    if not as_json:
-        key = f" ({finding.key})" if finding.key else ""
-        print(f"{shown(finding.source.name)}:{line + 1}:{column + 1}: {finding.severity}: {shown(finding.text)}{shown(key)} [{finding.check}]")
-        if remedy is not None:
-            print(f"    what to do: {shown(remedy)}")
-        return
     record = {
         "file": finding.source.name,
         "line": line + 1,
@@ -442,6 +495,6 @@ def print_finding(finding: Finding, lines: Lines, remedies: Remedies, as_json: b
         "severity": finding.severity,
         "text": finding.text,
         "key": finding.key,
-        "remedy": remedy,
+        "remedy": remedies.of(finding, lines),
     }
-    print(json.dumps(record))
+    return json.dumps(record) + "\n"

@@ -8,9 +8,10 @@ import os
 import sys
 from typing import NoReturn
 
-__all__ = ["STATUS_REFUSED", "Words", "broken_pipe", "in_words", "print_all", "print_nowhere", "print_text", "prints_any_text"]
+__all__ = ["STATUS_DEVICE", "STATUS_REFUSED", "Words", "broken_pipe", "complain", "in_words", "print_all", "print_nowhere", "print_text", "prints_any_text", "shown", "stem_of"]
 
 STATUS_REFUSED = 1
+STATUS_DEVICE = 6
 # What a shell says of a program that SIGPIPE ended.
 STATUS_PIPE = 141
 
@@ -72,3 +73,22 @@ def broken_pipe() -> int:
     """The status when nobody reads the output any more. What is still to be printed goes nowhere."""
     print_nowhere()
     return STATUS_PIPE
+
+
+def complain(text: str, status: int) -> int:
+    """Says on standard error what went wrong, and answers the status."""
+    print(f"btx: {shown(text)}", file=sys.stderr)
+    return status
+
+
+def shown(text: str) -> str:
+    """A text as it may be printed on a terminal or written as UTF-8."""
+    if text.isprintable():
+        return text
+    return "".join(character if character.isprintable() else "?" for character in text.encode("utf8", "replace").decode("utf8"))
+
+
+def stem_of(name: str) -> str:
+    """A database's name without its folders and its ending."""
+    base = os.path.basename(name)
+    return base[: -len(".bib")] if base.endswith(".bib") else base

@@ -23,7 +23,7 @@ from multiprocessing.util import Finalize
 from typing import Dict, Generator, Iterator, List, Optional, Sequence, Tuple, Union
 
 from .causes import cause_of, first_difference
-from .commands import STATUS_REFUSED, Words, broken_pipe
+from .commands import STATUS_REFUSED, Words, broken_pipe, shown
 from .corpus import Job, found_jobs
 from .depths import enter
 from .events import Met, Severity
@@ -32,7 +32,7 @@ from .library import run_over
 from .messages import message_with
 from .options import RANGES, Options
 from .refusals import Refusal
-from .reports import Compared, Progress, Resumed, Table, shown
+from .reports import Compared, Progress, Resumed, Table
 from .results import End, Result
 from .searching import Search, content_of, found_search
 from .workers import Ended, Team

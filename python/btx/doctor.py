@@ -7,23 +7,26 @@ A check that a run would log says what the run logs. The others are guesses, and
 
 from __future__ import annotations
 
+import bisect
 import itertools
 import re
 from operator import itemgetter
-from typing import Any, Dict, FrozenSet, Iterable, Iterator, List, NamedTuple, Optional, Set, Tuple, Union
+from typing import TYPE_CHECKING, Any, Dict, FrozenSet, Iterable, Iterator, List, NamedTuple, Optional, Set, Tuple, Union
 
 from .accents import accents_in, has_accents
 from .bibtext import ENDS_TEXT, Database, Field, Item, Lines, field_of, read, undefined_strings
-from .bsttext import StyleText, read_style
 from .checks import CHECKS, SAID, Check
-from .doubts import ENTRY_IN_TEXT, OTHER_SPACE, SIGN, SUFFIX_LAST, TEXTS, TWO_WORDS, Persons, has_words, list_in_braces, lost_words, lowered_tokens, may_lose, names_by_commas
-from .doubts import sign_by_names, sign_of_tex, suffix_last, what_for_hyphens
+from .doubts import AS_COMMENT, ENTRY_IN_TEXT, INITIAL_BEFORE_COMMA, OTHER_SPACE, SIGN, STRAY_AND, SUFFIX_LAST, TEXTS, TWO_WORDS, Persons, has_words, list_in_braces, lost_words
+from .doubts import lowered_tokens, may_lose, names_by_commas, sign_by_names, sign_of_tex, stray_and, suffix_last, what_for_hyphens
 from .reading import ENTRY, PREAMBLE, STRING, without_collection
-from .trying import Printing
 from .usual import ALONE, EITHER, FIELDS, REQUIRED, missing_fields, near_field
 from .values import BRACE
 
-__all__ = ["CHECKS", "Check", "Citation", "Finding", "Source", "Style", "examine", "without_unread"]
+if TYPE_CHECKING:
+    from .bsttext import StyleText
+    from .trying import Printing
+
+__all__ = ["CHECKS", "Check", "Citation", "Elsewhere", "Finding", "Source", "Style", "examine", "without_unread"]
 
 
 MONTHS = b"jan feb mar apr may jun jul aug sep oct nov dec".split()
@@ -31,6 +34,8 @@ MONTHS = b"jan feb mar apr may jun jul aug sep oct nov dec".split()
 JOURNALS = b"acmcs acta cacm ibmjrd ibmsj ieeese ieeetc ieeetcad ipl jacm jcss scp sicomp tocs tods tog toms toois toplas tcs".split()
 
 LOOKS_LIKE_FIELD = re.compile(rb"(?m)(?:^|(?<=}))[ \t,}]*([A-Za-z][A-Za-z_-]*)[ \t]*=[ \t]*[{\"0-9]")
+# A field in a list of names that goes on over what comes after it.
+FIELD_IN_NAMES = re.compile(rb",[ \t\r\n]*[A-Za-z][A-Za-z_-]*[ \t\r\n]*=[ \t\r\n]*[{\"0-9]")
 RESOLVER = re.compile(rb"^(?:https?://(?:dx\.)?doi\.org/|doi:)[ \t]*")
 TEX_COMMAND = re.compile(rb"\\[A-Za-z]+")
 # What doesn't tell titles: all but letters and digits.
@@ -66,6 +71,9 @@ OF_DATE = re.compile(rb"[0-9]{4}")
 # The types whose titles styles such as plain write in small letters; how many words that lose them are named.
 LOWERED = frozenset(b"article conference inbook incollection inproceedings mastersthesis misc techreport unpublished".split())
 MOST_LOST = 4
+# Braces with what is in them, if that has none; how deep braces are in most texts.
+IN_BRACES = re.compile(rb"\{[^{}]*\}")
+MOST_DEPTH = 3
 # All bytes but the signs at which LaTeX may stop.
 NO_SIGN = bytes(byte for byte in range(256) if byte not in b"_&^%#")
 NONE: FrozenSet[bytes] = frozenset()
@@ -101,10 +109,21 @@ class Citation(NamedTuple):
     start: int
 
 
+class Elsewhere(NamedTuple):
+    """What other documents cite from the same databases: their keys in lower case. aux: the name of the `.aux` file whose citations are looked at."""
+
+    aux: str
+    keys: FrozenSet[bytes]
+
+
 class Style:
     """What a style reads: its fields, types and strings. printing: what it prints."""
 
     def __init__(self, text: bytes, found: Optional[StyleText] = None, name: str = "this style") -> None:
+        # (only what asks for a style waits until these are read)
+        from .bsttext import read_style
+        from .trying import Printing
+
         style = read_style(text) if found is None else found
         self.fields = encoded([*style.named("field"), "crossref"])
         self.types = encoded(style.named("function"))
@@ -136,17 +155,19 @@ def examine(
     most: Optional[int] = None,
     printing: Optional[Printing] = None,
     kept: Optional[Dict[int, Database]] = None,
+    elsewhere: Optional[Elsewhere] = None,
 ) -> List[Finding]:
     """All findings of these databases, as those of one job in this order; by file and place. off: the names of checks that are left out. most: how many are wanted at most. printing: what the
-    style of a job prints, where no style is named. kept: gets what was read of each source, by its `id`."""
+    style of a job prints, where no style is named. kept: gets what was read of each source, by its `id`. elsewhere: what is cited, but not by these citations."""
     examiner = Examiner(style, printing)
     with without_collection():
         for number, source in enumerate(sources):
             examiner.examine(number, source)
         examiner.compare_persons()
         examiner.compare_parents()
+        examiner.entries_in_comments()
         if citations is not None:
-            examiner.compare_citations(citations)
+            examiner.compare_citations(citations, elsewhere or Elsewhere("the .aux file", NONE))
     if kept is not None:
         kept.update((id(source), database) for _, source, database in examiner.databases)
     found = examiner.found if not off else [it for it in examiner.found if it[3] not in off]
@@ -157,13 +178,13 @@ def examine(
 def finding_of(found: Local, source: Source) -> Finding:
     """A finding in words."""
     start, end, check, what, key = found
-    return Finding(source, start, end, check, SAID[check].format(*(it if isinstance(it, str) else shown(it) for it in what)), shown(key or b""))
+    return Finding(source, start, end, check, SAID[check].format(*[it if isinstance(it, str) else shown(it) for it in what]), shown(key) if key else "")
 
 
 class Examiner:
     """Examines databases one after another, and keeps what later ones are compared with.
 
-    near_fields: of each unusual name of a field the one that may be meant. of_persons, children: the lists of names, and the entries with a parent, which are looked at when all databases are read.
+    near_fields: of each unusual name of a field the one that may be meant; usual_fields: the names of which none is. fields_after: by the end of an item the fields that stand after it, in the text between items. of_persons, children: the lists of names, and the entries with a parent, which are looked at when all databases are read.
     works: what tells the works of the entries that aren't compared with others yet. firsts: of each doi the key of the first entry, and of each title with its year what tells its works from each other. plain_names:
     lists of names of which nothing is said. found: in any order."""
 
@@ -178,8 +199,10 @@ class Examiner:
         self.firsts: Dict[object, Any] = {}
         self.plain_names: Set[bytes] = set()
         self.near_fields: Dict[bytes, Optional[bytes]] = {}
+        self.usual_fields: Set[bytes] = set(FIELDS)
         self.of_persons: List[Tuple[int, Source, Database, Item, int, bytes]] = []
         self.children: List[Tuple[int, Source, Item, Dict[bytes, int]]] = []
+        self.fields_after: Dict[int, Set[bytes]] = {}
         self.found: List[Found] = []
         self.number, self.source = 0, Source("", b"")
         self.may_have_accents = False
@@ -194,6 +217,7 @@ class Examiner:
         self.number, self.source, self.database = number, source, read(source.text, self.stored, self.strings)
         self.databases.append((number, source, self.database))
         self.strings = self.database.strings
+        self.fields_after = {}
         items = self.database.items
         self.text_between(0, items[0].start if items else len(source.text))
         self.encoding()
@@ -270,6 +294,7 @@ class Examiner:
         found = LOOKS_LIKE_FIELD.search(self.source.text, start, entries[0].start() if entries else end)
         if found is not None:
             self.say("fields-in-text", *found.span(1), None, found[1])
+            self.fields_after[start] = {name.lower() for name in LOOKS_LIKE_FIELD.findall(self.source.text, start, end)}
 
     # ---- entries ----
 
@@ -287,12 +312,12 @@ class Examiner:
         kind = item.kind
         if self.style is None and kind not in REQUIRED:
             self.say("unusual-type", item.start, item.kind_end, item.key, kind)
-        if not FIELDS.issuperset(numbers):
+        if not self.usual_fields.issuperset(numbers):
             self.misspelt(item, numbers)
-        # (a style in use has a table of its own; and most entries have all that is required)
+        # (most entries have all that is required)
         if b"crossref" in numbers:
             self.children.append((self.number, self.source, item, numbers))
-        elif self.style is None and item.slip is None and (kind in EITHER or not ALONE.get(kind, NONE) <= numbers.keys()):
+        elif item.slip is None and (kind in EITHER or not ALONE.get(kind, NONE) <= numbers.keys()):
             self.required(item, numbers)
         if records.is_whole.find(0, first, last) >= 0:
             self.long_fields(item, numbers)
@@ -360,17 +385,22 @@ class Examiner:
 
     def misspelt(self, item: Item, numbers: Dict[bytes, int]) -> None:
         """Looks for a field whose name differs in a letter or two from one that the styles read."""
-        for name in numbers.keys() - FIELDS:
+        for name in numbers.keys() - self.usual_fields:
             if name not in self.near_fields:
                 self.near_fields[name] = near_field(name)
             near = self.near_fields[name]
-            if near is not None and near not in numbers and (self.style is None or name not in self.style.fields):
+            if near is None:
+                self.usual_fields.add(name)
+            elif near not in numbers and (self.style is None or name not in self.style.fields):
                 self.say("misspelt-field", *self.name_of(item, numbers[name]), item.key, name, near)
 
     def required(self, item: Item, numbers: Dict[bytes, int]) -> None:
-        """Says which fields an entry lacks that has no parent."""
-        for fields in missing_fields(item.kind, numbers):
-            self.missing(item, fields)
+        """Says which fields an entry lacks that has no parent, nor has them after its end, by a brace too many."""
+        for fields in missing_fields(item.kind, numbers.keys() | self.fields_after.get(item.end, set())):
+            if self.style is None:
+                self.missing(item, fields)
+            elif self.style.printing.misses(item.kind, fields):
+                self.say("missed-field", item.key_end - len(item.key or b""), item.key_end, item.key, self.style.printing.name, b" or ".join(fields), item.kind)
 
     def missing(self, item: Item, fields: Tuple[bytes, ...], check: str = "missing-field") -> None:
         self.say(check, item.key_end - len(item.key or b""), item.key_end, item.key, b" or ".join(fields), item.kind)
@@ -430,13 +460,13 @@ class Examiner:
         has_organization = not WORDS_OF_ORGANIZATIONS.isdisjoint(lowered.translate(TO_SPACES).split()) and OF_ORGANIZATIONS.search(value) is not None
         is_list = value.count(b",") > lowered.count(b" and ") + 1 or b";" in value or b"&" in value or value.startswith(b"{")
         is_plain = not has_organization and not is_list and value.isascii() and not has_others_inside(value, lowered) and not has_et_al(value, lowered)
-        if is_plain and (b"," not in value or SUFFIX_LAST.search(value) is None):
+        if is_plain and STRAY_AND.search(value) is None and (b"," not in value or SUFFIX_LAST.search(value) is None and INITIAL_BEFORE_COMMA.search(value) is None):
             self.plain_names.add(value)
             return
-        field = self.text_of(item, number)
-        if field is None:
+        its = self.database.text_at(item.records, number)
+        if its is None:
             return
-        text, offset = self.database.raw(field), self.database.start(field) + 1
+        text, offset = its[1], its[0] + 1
         found = ET_AL.search(text)
         if found is not None:
             self.say("et-al", offset + found.start(), offset + found.end(), item.key)
@@ -453,9 +483,15 @@ class Examiner:
 
     def list_of_names(self, item: Item, offset: int, text: bytes, hidden: bytes) -> None:
         """Looks for names that aren't parted by ` and `."""
+        if item.slip is not None and FIELD_IN_NAMES.search(text) is not None:
+            # (the mistake says that the list isn't closed)
+            return
         for check, seen in (("names-by-sign", sign_by_names(hidden)), ("names-by-commas", names_by_commas(hidden, spans_of_names(hidden)))):
             if seen is not None and (check == "names-by-sign" or b";" not in hidden):
                 self.say(check, offset + seen.start, offset + seen.end, item.key, seen.what)
+        stray = stray_and(hidden)
+        if stray is not None:
+            self.say("stray-and", offset + stray.start, offset + stray.end, item.key, stray.what)
         for seen, _ in suffix_last(text, hidden, spans_of_names(hidden)) if b"," in hidden and SUFFIX_LAST.search(hidden) is not None else ():
             self.say("suffix-last", offset + seen.start, offset + seen.end, item.key, seen.what)
         space = OTHER_SPACE.search(hidden)
@@ -494,10 +530,10 @@ class Examiner:
         for name in TEXTS.intersection(numbers):
             if search(value_of(numbers[name])) is None or (self.style is not None and name not in self.style.fields):
                 continue
-            field = self.text_of(item, numbers[name])
-            seen = None if field is None else sign_of_tex(self.database.raw(field))
-            if field is not None and seen is not None:
-                start = self.database.start(field) + 1
+            found = self.database.text_at(item.records, numbers[name])
+            seen = None if found is None else sign_of_tex(found[1])
+            if found is not None and seen is not None:
+                start = found[0] + 1
                 self.say("sign-of-tex", start + seen.start, start + seen.end, item.key, seen.what)
 
     def year(self, item: Item, number: int) -> None:
@@ -514,16 +550,18 @@ class Examiner:
         may_change, has_tex = may_lose(value), b"\\" in value or b"$" in value
         if not may_change and not has_tex:
             return
-        field = self.text_of(item, number)
-        if field is None:
+        found = self.database.text_at(item.records, number)
+        if found is None:
             return
-        start, raw = self.database.start(field) + 1, self.database.raw(field)
-        lost = lost_words(hide_braces(raw.replace(b".", b";"))) if may_change else []
+        start, raw = found[0] + 1, found[1]
+        # (only what is hidden shows as points)
+        hidden = hide_braces(raw.replace(b".", b";"))
+        lost = lost_words(hidden) if may_change else []
         if lost:
             (place, word), words = lost[0], b", ".join(b"`" + word + b"`" for _, word in lost[:MOST_LOST])
             what = "styles such as plain write" if self.printing is None else f"{self.printing.name} writes"
             self.say("lost-capitals", start + place, start + place + len(word), item.key, words, word, what)
-        for place, token, made in lowered_tokens(raw, hide_braces(raw)) if has_tex else ():
+        for place, token, made in lowered_tokens(raw, hidden) if b"\\" in hidden or b"$" in hidden else ():
             what = "styles such as plain make" if self.printing is None else f"{self.printing.name} makes"
             self.say("lowered-tex", start + place, start + place + len(token), item.key, token, made, what)
 
@@ -591,9 +629,12 @@ class Examiner:
         for number, source, item, numbers in self.children:
             name = item.records.value(numbers[b"crossref"]).strip().lower()
             at, parent = entries.get(name, (0, None))
-            if parent is None:
-                continue
             self.number, self.source = number, source
+            if parent is None:
+                self.say("no-parent", *self.name_of(item, numbers[b"crossref"]), item.key, item.key or b"", item.records.value(numbers[b"crossref"]))
+                continue
+            if parent.value_of(b"crossref") is not None:
+                self.say("nested-parent", *self.name_of(item, numbers[b"crossref"]), item.key, item.key or b"", parent.key or b"")
             # (the first entry that names it has it stored, if it is stored itself)
             if (at, parent.start) < (number, item.start) and name not in followed:
                 self.say("parent-above", *self.name_of(item, numbers[b"crossref"]), item.key, parent.key or b"")
@@ -603,10 +644,25 @@ class Examiner:
             for fields in missing_fields(item.kind, {*numbers, *its}) if self.style is None and item.slip is None else []:
                 self.missing(item, fields, "missing-in-parent")
 
+    # ---- lines ----
+
+    def entries_in_comments(self) -> None:
+        """Says which entries are read to their ends though their line begins as a comment would."""
+        for number, source, database in self.databases:
+            self.number, self.source = number, source
+            lines = list(AS_COMMENT.finditer(source.text))
+            starts = [item.start for item in database.items] if lines else []
+            for line in lines:
+                end = source.text.find(b"\n", line.end())
+                first, last = bisect.bisect_left(starts, line.end() - 1), len(starts) if end < 0 else bisect.bisect_left(starts, end)
+                for item in database.items[first:last]:
+                    if item.is_entry and item.slip is None:
+                        self.say("not-hidden", item.start, item.kind_end, item.key)
+
     # ---- citations ----
 
-    def compare_citations(self, citations: List[Citation]) -> None:
-        """Says which citations have no entry, and which entries nothing cites."""
+    def compare_citations(self, citations: List[Citation], elsewhere: Elsewhere) -> None:
+        """Says which citations have no entry, and which entries nothing cites, here or elsewhere."""
         entries: Dict[bytes, Tuple[int, Source, Item]] = {}
         for number, source, database in self.databases:
             for item in database.items:
@@ -619,13 +675,14 @@ class Examiner:
                 self.number, self.source = -1, citation.source
                 self.say("no-entry", citation.start, citation.start + len(citation.key), citation.key, citation.key)
             cited.add(key)
+        cited |= elsewhere.keys
         if b"*" in cited:
             return
         parents = {(item.value_of(b"crossref") or b"").lower() for key, (_, _, item) in entries.items() if key in cited and item.value_of(b"crossref") is not None}
         for key, (number, source, item) in entries.items():
             if key not in cited and key not in parents:
                 self.number, self.source = number, source
-                self.say("uncited", item.key_end - len(key), item.key_end, item.key)
+                self.say("uncited", item.key_end - len(key), item.key_end, item.key, elsewhere.aux)
 
 
 EXAMINED = (
@@ -693,6 +750,11 @@ def hide_braces(text: bytes) -> bytes:
     """A text in which what is in braces is dots."""
     if b"{" not in text:
         return text
+    hidden = text
+    for _ in range(MOST_DEPTH):
+        hidden = IN_BRACES.sub(as_dots, hidden)
+        if b"{" not in hidden:
+            return hidden.replace(b"}", b".")
     pieces: List[bytes] = []
     at = depth = 0
     for found in BRACE.finditer(text):
@@ -703,6 +765,10 @@ def hide_braces(text: bytes) -> bytes:
         at = end
     pieces.append(b"." * (len(text) - at) if depth else text[at:])
     return b"".join(pieces)
+
+
+def as_dots(found: "re.Match[bytes]") -> bytes:
+    return b"." * len(found[0])
 
 
 def spans_of_names(hidden: bytes) -> Iterator[Tuple[int, int]]:

@@ -7,6 +7,7 @@ import re
 from typing import Dict, List, NamedTuple, Optional, Set, Tuple
 
 from .bibtext import Item, Lines, read
+from .commands import stem_of
 from .doctor import Citation, Finding, Source, lines_of
 from .jobs import run
 from .messages import Kind, Message
@@ -14,7 +15,7 @@ from .options import Options
 from .outputs import Inputs
 from .searching import Search
 
-__all__ = ["Logged", "findings_of_run", "has_whole_list", "in_order_of_job", "stem_of"]
+__all__ = ["Logged", "findings_of_run", "has_whole_list", "in_order_of_job"]
 
 BIBDATA = re.compile(rb"(?m)^\\bibdata\{([^}\r\n]*)")
 BAD_PARENT = re.compile(r'A bad cross reference--entry "(.*)" refers to entry ".*", which doesn\'t exist', re.DOTALL)
@@ -36,12 +37,6 @@ def in_order_of_job(sources: List[Source], auxes: List[Source]) -> List[Source]:
     named = [name.strip() for aux in auxes for found in BIBDATA.finditer(aux.text) for name in found[1].split(b",")]
     order = {stem_of(os.fsdecode(name)): number for number, name in reversed(list(enumerate(named)))}
     return sorted(sources, key=lambda source: order.get(stem_of(source.name), len(order)))
-
-
-def stem_of(name: str) -> str:
-    """A database's name without its folders and its ending."""
-    base = os.path.basename(name)
-    return base[: -len(".bib")] if base.endswith(".bib") else base
 
 
 def stem_of_style(path: str) -> str:

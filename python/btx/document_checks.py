@@ -8,13 +8,16 @@ from typing import Dict, FrozenSet, List, NamedTuple, Optional, Set, Tuple
 
 from .bibtext import Lines
 from .doctor import Citation, Finding, Source
+from .remedies import SEEN, said
 from .searching import MOST_BYTES, content_of
-from .tex_text import cites_in, read_by_tex
+from .tex_text import cites_in, files_read, read_by_tex
 
-__all__ = ["Documents", "documents_of", "findings_of_documents"]
+__all__ = ["Documents", "documents_of", "findings_of_documents", "remedy_by_document"]
 
 MOST_FILES = 200
-READS = re.compile(rb"\\(?:input|include|subfile)\{([^{}\r\n]*)\}")
+STYLE = re.compile(rb"\\bibliographystyle[ \t]*\{[ \t]*([^{}\r\n]*?)[ \t]*\}")
+DATABASE = re.compile(rb"\\bibliography(?![A-Za-z])")
+SECOND_STYLE, NO_STYLE, NO_DATABASE = "Illegal, another \\bibstyle command", "I found no \\bibstyle command", "I found no \\bibdata command"
 NOCITE_ALL = re.compile(rb"\\nocite\{\s*\*\s*\}")
 
 
@@ -44,9 +47,8 @@ def documents_of(job: str) -> Documents:
         if found is None:
             continue
         files.append(found)
-        named = (os.path.join(folder, os.fsdecode(it[1].strip())) for it in READS.finditer(found.text))
-        others = [path if path.endswith(".tex") else path + ".tex" for path in named if "\0" not in path]
-        waiting += [path for path in dict.fromkeys(others) if path not in seen]
+        others = [os.path.join(folder, name) for name in files_read(found.text)]
+        waiting += [path for path in others if path not in seen]
         seen.update(others)
     return Documents(files, aux, os.stat(aux).st_mtime_ns)
 
@@ -96,6 +98,27 @@ def of_older(file: TexFile, missing: Dict[bytes, int], aux: str) -> Finding:
     is_are = "are" if others else "is"
     name = key.decode("utf8", "surrogateescape")
     return Finding(file.source, place, place + len(key), "older-aux", f"`{name}`{also} {is_are} cited here and not in {aux}, which is older")
+
+
+def remedy_by_document(text: str, aux: str) -> Optional[str]:
+    """What to do about an error of an `.aux` file, where the document beside it shows that."""
+    file = tex_file(aux[: -len(".aux")] + ".tex") if text in (SECOND_STYLE, NO_STYLE, NO_DATABASE) else None
+    if file is None:
+        return None
+    lines, name = Lines(file.source.text), file.source.name
+    styles: Dict[str, int] = {}
+    for found in STYLE.finditer(file.text):
+        styles.setdefault(found[1].decode("utf8", "surrogateescape"), lines.line_of(found.start()) + 1)
+    rows = list(styles.items())
+    if text == SECOND_STYLE:
+        return said(SEEN["OtherStyle"], rows[0][0], f"{name}:{rows[0][1]}", rows[-1][0], str(rows[-1][1])) if len(rows) > 1 else None
+    if text == NO_STYLE and rows:
+        return said(SEEN["OlderAux"], f"{name}:{rows[0][1]}", "\\bibliographystyle")
+    database = DATABASE.search(file.text)
+    if database is None:
+        return None
+    place = f"{name}:{lines.line_of(database.start()) + 1}"
+    return said(SEEN["NoStyleInDocument"], place) if text == NO_STYLE else said(SEEN["OlderAux"], place, "\\bibliography")
 
 
 def keys_in(text: bytes) -> Dict[bytes, int]:

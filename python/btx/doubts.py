@@ -9,8 +9,8 @@ import re
 from typing import Container, Dict, Iterable, Iterator, List, NamedTuple, Optional, Set, Tuple
 
 __all__ = [
-    "ENTRY_IN_TEXT", "OTHER_SPACE", "Persons", "SIGN", "SUFFIX_LAST", "TEXTS", "TWO_WORDS", "has_words", "list_in_braces", "lost_words", "lowered_tokens", "may_lose", "names_by_commas",
-    "sign_by_names", "sign_of_tex", "suffix_last", "what_for_hyphens",
+    "AS_COMMENT", "ENTRY_IN_TEXT", "INITIAL_BEFORE_COMMA", "OTHER_SPACE", "Persons", "SIGN", "STRAY_AND", "SUFFIX_LAST", "TEXTS", "TWO_WORDS", "has_words", "list_in_braces", "lost_words", "lowered_tokens", "may_lose", "names_by_commas",
+    "sign_by_names", "sign_of_tex", "stray_and", "suffix_last", "what_for_hyphens",
 ]
 
 # Fields whose text LaTeX sets as text.
@@ -30,12 +30,18 @@ BY_SIGN = re.compile(rb";|(?<![^ \t\r\n~])\\?&(?![^ \t\r\n~])")
 WHOLE_IN_BRACES = re.compile(rb"[ \t\r\n]*\{((?:[^{}]|\{[^{}]*\})*)\}[ \t\r\n]*")
 # A word that is one initial; words of organizations that may be persons' names too, so that they tell nothing where no list stands in braces. front/src/persons.rs has the same.
 INITIAL = re.compile(rb"[A-Z]\.")
+# An initial, a word and a comma: `A. Bee,` of a list whose names commas part.
+INITIAL_BEFORE_COMMA = re.compile(rb"(?<![^ \t\r\n~])[A-Z]\.[ \t\r\n~]+[^ \t\r\n~,]+,")
+# An `and` that begins a list, follows another one or ends the list.
+STRAY_AND = re.compile(rb"\A[ \t\r\n]*(?P<first>and)(?![^ \t\r\n])|[ \t\r\n]and[ \t\r\n]+(?P<second>and)(?![^ \t\r\n])|[ \t\r\n](?P<last>and)[ \t\r\n]*\Z", re.IGNORECASE)
 OF_COMPANIES = frozenset(b"administration agency authority board co companies company corp division inc limited ltd museum office press service services".split())
 # The words of a title, those with a hyphen between them as one (`X-ray`).
 TITLE_WORD = re.compile(rb"[A-Za-z]+(?:-[A-Za-z]+)*")
 # A long word after the first one, which tells whether a title has capital letters without names; a capital letter after another letter.
 TELLING = re.compile(rb"(?<=[^A-Za-z-])[A-Za-z][a-z-]{3,}(?![A-Za-z-])")
 LATER_CAPITAL = re.compile(rb"[A-Za-z][A-Z]")
+# A capital letter, and before it what comes before a word that is lost: a letter or a digit, or a sign after which a name may stand.
+MAY_BE_LOST = re.compile(rb"[A-Za-z0-9,).]\s*[A-Z]")
 # What is in braces is hidden by this sign.
 HIDDEN = b"."
 NO_TITLE_WORD = re.compile(rb"\\[A-Za-z]+|\$[^$]*\$")
@@ -48,6 +54,8 @@ NAME_TOKEN = re.compile(rb"[^ \t\r\n~,]+|,")
 # A command or a formula of TeX; the commands that are letters, which lose their capitals in braces as well.
 OF_TEX = re.compile(rb"\\[A-Za-z]+|\\\((?:[^\\]|\\[^)])*\\\)|\\.|\$(?:[^$\\]|\\.)*\$", re.DOTALL)
 LETTERS = frozenset((b"\\L", b"\\O", b"\\AA", b"\\AE", b"\\OE"))
+# A line that begins as a comment would, up to an `@` in it.
+AS_COMMENT = re.compile(rb"(?mi)^[ \t]*(?:%|@comment(?![a-z]))[^\n@]*@")
 # What looks like an entry, but for its `@`: a word, a brace, a key, and a field.
 ENTRY_IN_TEXT = re.compile(rb"(?m)^[ \t]*([A-Za-z]+)[ \t]*[{(][ \t]*([^\x00-\x20\"#%'(),={}]+)[ \t]*,\s*[A-Za-z][A-Za-z_-]*[ \t]*=")
 DASHES = {"-": "one hyphen", "\u2010": "a hyphen of its own", "\u2011": "a non-breaking hyphen", "\u2012": "a figure dash", "\u2013": "an en dash", "\u2014": "an em dash", "\u2212": "a minus sign"}
@@ -92,15 +100,36 @@ def sign_by_names(hidden: bytes) -> Optional[Seen]:
     return Seen(*found.span(), f"names are parted by ` and `: write it for the `{sign}`") if found else None
 
 
+def stray_and(hidden: bytes) -> Optional[Seen]:
+    """An `and` with no name before it or after it."""
+    found = STRAY_AND.search(hidden)
+    if found is None or found.lastgroup is None:
+        return None
+    what = {"first": "take out this `and`: no name stands before it", "second": "take out one of the two `and`: between them stands no name", "last": "take out this `and`: no name stands after it"}
+    return Seen(*found.span(found.lastgroup), what[found.lastgroup])
+
+
 def names_by_commas(hidden: bytes, spans: Iterable[Tuple[int, int]]) -> Optional[Seen]:
-    """A name with two commas of which each part has several words, or with more commas."""
+    """A name whose commas seem to part names."""
     for start, end in spans:
-        parts = hidden[start:end].split(b",")
-        if len(parts) < 3 or len(parts) == 3 and not all(len(part.split()) > 1 for part in parts):
-            continue
-        begin = start + len(hidden[start:end]) - len(hidden[start:end].lstrip())
-        why = "with two commas this is one, `von Last, Jr, First`" if len(parts) == 3 else "a name has at most two commas, and a run logs an error"
-        return Seen(begin, start + len(hidden[start:end].rstrip()), f"names are parted by ` and `, not by commas: {why}")
+        why = why_several(hidden[start:end].split(b","))
+        if why is not None:
+            begin = start + len(hidden[start:end]) - len(hidden[start:end].lstrip())
+            return Seen(begin, start + len(hidden[start:end].rstrip()), f"names are parted by ` and `, not by commas: {why}")
+    return None
+
+
+def why_several(parts: List[bytes]) -> Optional[str]:
+    """Why the parts of a name, which commas part, seem to be several names: its last name begins with an initial, its Jr is of several words or an initial, or it has too many commas."""
+    words = [WORD.findall(part) for part in parts]
+    if len(parts) > 3:
+        return "a name has at most two commas, and a run logs an error"
+    if len(parts) < 2 or not words[-1] or SUFFIX_LAST.match(b"," + parts[-1]) or is_of_company(words[-1][-1]):
+        return None
+    if len(parts) == 3 and (len(words[1]) > 1 or words[1] and INITIAL.fullmatch(words[1][0])):
+        return "with two commas this is one, `von Last, Jr, First`"
+    if len(words[0]) > 1 and INITIAL.fullmatch(words[0][0]):
+        return f"with a comma this is one, `Last, First`, whose last name begins with `{words[0][0].decode()}`"
     return None
 
 
@@ -139,6 +168,8 @@ def lost_words(hidden: bytes) -> List[Tuple[int, bytes]]:
     """The words of a title, whose points are those of what is in braces, that lose capital letters: one after the first, or the first one in a title whose other words have small letters."""
     if b"\\" in hidden or b"$" in hidden:
         hidden = NO_TITLE_WORD.sub(lambda it: b"." * len(it[0]), hidden)
+    if MAY_BE_LOST.search(hidden) is None:
+        return []
     words = [(it.start(), it[0]) for it in TITLE_WORD.finditer(hidden)]
     small = [word for _, word in words if word.islower()]
     long = [(place, word) for place, word in words if len(word) > 3 and word not in OF_GRAMMAR]

@@ -13,6 +13,7 @@ from .doctor import JOURNALS, MONTHS
 from .documents import Document
 from .outline import Placed
 from .standard import FIELDS, TYPES
+from .tex_text import is_read, read_by_tex
 from .workspace import MOST_BYTES, Workspace
 
 __all__ = ["Named", "Place", "RenameRefused", "completions", "definition", "hover", "name_at", "references", "rename", "symbols"]
@@ -120,7 +121,7 @@ def names_near(document: Document, workspace: Workspace, place: int) -> Iterator
 
 
 def uses(named: Named, workspace: Workspace) -> Iterator[Tuple[Place, bool]]:
-    """All places of a name, and whether each is its definition: in its text, and of a key and a string also in the files beside it."""
+    """All places of a name, and whether each is its definition: in its text, of a key and a string also in the files beside it, and of a key in all files that the document reads."""
     for file in files_of(named, workspace):
         for other, is_definition in names_of(file, workspace):
             if (other.kind, other.name) == (named.kind, named.name):
@@ -131,7 +132,9 @@ def files_of(named: Named, workspace: Workspace) -> List[Document]:
     """The files that may have a name."""
     endings = {"key": (".bib", ".tex", ".aux"), "string": (".bib",), "macro": (".bst",), "function": (".bst",)}[named.kind]
     document = named.place.document
-    return [document] if document.uri.endswith(".bst") else list(workspace.beside(document, *endings))
+    if document.uri.endswith(".bst"):
+        return [document]
+    return workspace.of_document(document, *endings) if named.kind == "key" else list(workspace.beside(document, *endings))
 
 
 def definitions_in(document: Document, named: Named, workspace: Workspace) -> Iterator[Place]:
@@ -186,11 +189,19 @@ def rename(named: Named, workspace: Workspace, new: str) -> List[Place]:
     if new.lower() != named.name and (any(True for _ in uses(same, workspace)) or (named.kind == "function" and (new.lower() in BUILT_IN or new.lower() in PREDEFINED))):
         raise RenameRefused(f"{new} is a name already")
     if named.kind == "string" and new.lower() != named.name and wanted.lower() in strings_of_style(named.place.document, workspace):
-        raise RenameRefused(f"{new} is a string of the style already")
-    found = [place for place, _ in uses(named, workspace) if not place.document.uri.endswith(".aux")]
-    if not any(is_definition for _, is_definition in uses(named, workspace)):
+        raise RenameRefused(f"{new} is a string of the style or of TeX's standard styles already")
+    found = list(uses(named, workspace))
+    if not any(is_definition for _, is_definition in found):
         raise RenameRefused(f"{named.name} isn't defined here")
-    return found
+    return [place for place, _ in found if is_renamed(place, workspace)]
+
+
+def is_renamed(place: Place, workspace: Workspace) -> bool:
+    """Whether a name is changed at a place: neither in what LaTeX writes, nor in what it passes over or prints as it stands."""
+    document = place.document
+    if not document.uri.endswith(".tex"):
+        return not document.uri.endswith(".aux")
+    return is_read(document.text, place.start, workspace.made("read by TeX", document, read_by_tex))
 
 
 def strings_of_style(document: Document, workspace: Workspace) -> FrozenSet[bytes]:

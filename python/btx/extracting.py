@@ -11,7 +11,7 @@ from typing import Dict, Iterator, List, Mapping, NamedTuple, Optional, Set
 
 from . import library
 from .causes import first_difference
-from .commands import STATUS_REFUSED, Words, broken_pipe, in_words, print_all, print_text
+from .commands import STATUS_REFUSED, Words, broken_pipe, in_words, print_all, print_text, shown
 from .jobs import Content, gathered, job_name
 from .messages import Kind, Message, decoded
 from .mistakes import values_of
@@ -19,7 +19,6 @@ from .options import Options
 from .outputs import Inputs, write_file
 from .reading import ENTRY, PREAMBLE, STRING, WRONG, Bibliography, read_text
 from .refusals import OutputTooLong, Refusal
-from .reports import shown
 from .results import End, Result
 from .searching import search_from
 from .values import has_names, parts_of

@@ -21,6 +21,8 @@ ALIKE = str.maketrans({**dict.fromkeys("\xad\u2010\u2011\u2012\u2013\u2014\u2212
 LEAST_ALIKE, LEAST_PAIRS = 0.8, 0.4
 # How many letters a name has at most for which another one is looked for; how many names with a pair of its letters are looked at, and how many of these are compared letter by letter.
 MOST_LETTERS, MOST_LOOKED_AT, MOST_COMPARED = 200, 500, 10
+# For how many pairs the names are looked through; for more of them each name is divided into its pairs once.
+MOST_SCANS = 60
 
 
 class Names:
@@ -29,6 +31,7 @@ class Names:
     def __init__(self, names: Iterable[str]) -> None:
         self.given = names
         self.found: Dict[str, Optional[str]] = {}
+        self.scanned: Dict[str, List[str]] = {}
 
     @cached_property
     def names(self) -> List[str]:
@@ -38,6 +41,11 @@ class Names:
     def by_lower(self) -> Dict[str, str]:
         """The names by their small letters."""
         return {name.lower(): name for name in self.names}
+
+    @cached_property
+    def short(self) -> List[str]:
+        """The names, in small letters, that aren't too long to be compared."""
+        return [name for name in self.by_lower if len(name) <= MOST_LETTERS]
 
     @cached_property
     def by_form(self) -> Dict[str, Dict[str, str]]:
@@ -52,9 +60,23 @@ class Names:
     def by_pair(self) -> Dict[str, List[str]]:
         """The names, in small letters, by each pair of letters that stand side by side in them."""
         found: Dict[str, List[str]] = {}
-        for name in self.by_lower:
-            for pair in pairs_of(name) if len(name) <= MOST_LETTERS else ():
+        for name in self.short:
+            for pair in pairs_of(name):
                 found.setdefault(pair, []).append(name)
+        return found
+
+    def with_pair(self, pair: str) -> List[str]:
+        """The names, in small letters, that have this pair."""
+        if pair in self.scanned:
+            return self.scanned[pair]
+        if len(self.scanned) >= MOST_SCANS:
+            return self.by_pair.get(pair, [])
+        first, second = pair
+        if first == "\0":
+            found = [name for name in self.short if name.startswith(second)]
+        else:
+            found = [name for name in self.short if (name.endswith(first) if second == "\0" else pair in name)]
+        self.scanned[pair] = found
         return found
 
     def has(self, name: str) -> bool:
@@ -83,7 +105,7 @@ class Names:
         pairs = pairs_of(name)
         shared: "Counter[str]" = Counter()
         left = MOST_LOOKED_AT
-        for names in sorted((self.by_pair.get(pair, []) for pair in pairs), key=len):
+        for names in sorted(map(self.with_pair, pairs), key=len):
             shared.update(names[:left])
             left -= len(names)
             if left <= 0:
@@ -118,6 +140,12 @@ class Known:
     @cached_property
     def names(self) -> Names:
         return Names(text_of(name) for name in (*(item.key for _, item in self.strings.values()), *MONTHS, *JOURNALS))
+
+    @cached_property
+    def names_beside_months(self) -> Names:
+        """The names of strings that aren't months."""
+        months = {text_of(name) for name in MONTHS}
+        return Names([name for name in self.names.names if name.lower() not in months])
 
     def items_of(self, source: Source) -> List[Item]:
         return self.items_and_starts(source)[0]

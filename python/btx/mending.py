@@ -68,6 +68,8 @@ def is_mended(text: bytes, start: int, end: int, guess: Mending) -> bool:
     first = after[0].slip
     old = before[0].slip
     is_gone = first is None or (old is not None and first.place - shift > old.place)
+    # (a value that now runs to the end of the text has swallowed the mistake)
+    is_gone = is_gone and not (first is not None and old is not None and first.place >= len(new) and old.place < len(part) and len(after[0].fields) <= len(before[0].fields))
     lost = keys_of(before[1:]) - keys_of(after[1:])
     is_whole = after[0].kind == before[0].kind and len(after[0].fields) >= len(before[0].fields)
     return is_gone and len(slips) <= sum(item.slip is not None for item in before) and not lost and is_whole

@@ -5,7 +5,7 @@ from __future__ import annotations
 import importlib
 from typing import TYPE_CHECKING, Any, Dict, List
 
-from .names import Divided, divided
+from .dividing import Divided, divided
 
 if TYPE_CHECKING:
     from .reading import Bibliography, Entry

@@ -71,6 +71,8 @@ class Records:
 
     def name(self, number: int) -> bytes:
         """The name of a record, in lower case."""
+        if self.known_names is not None:
+            return self.known_names[number]
         at = self.name_at[number]
         return self.lowered[self.texts[at : at + self.name_len[number]]]
 

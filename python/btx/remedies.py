@@ -9,7 +9,7 @@ from typing import Dict, Iterable, List, Optional, Tuple, Union
 from .bibtext import REPEATED, Item, Lines
 from .known import ALIKE, Names, names_of
 
-__all__ = ["GENERAL", "SEEN", "field_for_each_name", "missed_field", "not_hidden", "of_items", "of_missing", "of_mistake", "remedy_of", "said"]
+__all__ = ["GENERAL", "SEEN", "begins_item", "begins_month", "field_for_each_name", "missed_field", "not_hidden", "of_items", "of_missing", "of_mistake", "remedy_of", "said"]
 
 # What a text shows where a mistake was met. $1, $2 and so on are names and places.
 SEEN = {
@@ -18,6 +18,10 @@ SEEN = {
     "NoCommaAfterKey": "put a comma after the key `$1`",
     "NoComma": "put a comma after the value of `$1`, which ends at $2",
     "NoEquals": "put an `=` after `$1`",
+    "OtherForEquals": "write `$1 = ..`, with an `=` in the place of the `$2`",
+    "NoValue": "write the value of `$1` after the `=`, or take the field out",
+    "BareCommand": "put the value into braces: `{$1..}`",
+    "PlusForHash": "write `#` in the place of the `+`: it joins the parts of the value of `$1`",
     "NameOfWords": "write the field's name without whitespace: `$1 = ..`",
     "NoQuote": "put the value into braces: `$1` isn't the quote `\"`",
     "SemicolonForComma": "write a comma after the $1, in the place of the `;`",
@@ -50,6 +54,9 @@ SEEN = {
     "NearParent": "write `crossref = {$1}`",
     "NamesByCommas": "write ` and ` between two names: `$1`",
     "AuxBreaksOff": "run LaTeX again to its end, then BibTeX: $1 ends in the middle of a line",
+    "OlderAux": "run LaTeX again: $1 has `$2`, so the `.aux` file is older",
+    "NoStyleInDocument": "write `\\bibliographystyle{plain}`, or another style, above $1, and run LaTeX",
+    "OtherStyle": "keep one `\\bibliographystyle` and run LaTeX: `$1` ($2) is in effect, since it stands first; take it away if `$3` (line $4) is meant",
     "DefinedInLater": "write `\\bibliography{$1}` and run LaTeX: $2 defines the string and is read too late",
     "DefinedBelow": "move the `@string` of `$1` ($2) above its first use",
     "EntryOfNoKey": "write the key into it: `@$1{$2,`",
@@ -66,6 +73,11 @@ SEEN = {
     "OfBiblatex": "run `biber $1` in the place of BibTeX, or give `biblatex` the option `backend=bibtex` and run LaTeX",
 }
 
+# The same that the doctor alone sees, so far.
+QUOTED_NAME = "write the name without quotes: `$1`"
+TWO_EQUALS = "take out one of the two `=` after `$1`"
+# What a run says of a citation whose key is empty.
+EMPTY_CITE = "write a key in the empty `\\cite{}`, or take it out"
 # What to do about a message where nothing more is seen: `*` is a name and `~` any other text.
 GENERAL = {
     "White space in argument": "write no space in `\\cite{..}`, `\\bibliography{..}` or the name of a file",
@@ -103,6 +115,10 @@ GENERAL = {
     'Name ~ in "~" has a comma at the end': "remove the comma in the database",
 }
 
+NO_ENTRY = re.compile(r'I didn\'t find a database entry for "(.*)"', re.DOTALL)
+BAD_PARENT = re.compile(r'A bad cross reference--entry ".*" refers to entry "(.*)", which doesn\'t exist', re.DOTALL)
+NO_STRING = re.compile(r'string name "(.*)" is undefined', re.DOTALL)
+TOO_MANY_COMMAS = re.compile(r'Too many commas in name [0-9]+ of "(.*)"', re.DOTALL)
 VARIES = re.compile(r"([*~])")
 NAME = re.compile(rb"[^\x00-\x20\"#%'(),={}]*")
 # A line with a field after its `%`.
@@ -126,7 +142,10 @@ MONTH = re.compile(rb"(?i:jan|feb|mar|apr|may|jun|jul|aug|sep|oct|nov|dec)")
 # The months, of which styles define the first three letters.
 MONTHS = ("january", "february", "march", "april", "may", "june", "july", "august", "september", "october", "november", "december")
 # Quotes that aren't the one of databases.
-QUOTES = "\u201c\u201d\u201e\u2018\u2019\xab\xbb"
+QUOTES = "\u201c\u201d\u201e\u2018\u2019\xab\xbb`"
+# What may stand in the place of an `=`; a name in quotes.
+FOR_EQUALS = b":~->"
+QUOTED = re.compile(rb"\"([^\x00-\x20\"#%'(),={}]+)\"\s*=")
 # What looks like a field: where a line begins, or after a comma.
 BEGINS_FIELD = re.compile(rb'\n[ \t]*([A-Za-z][^\x00-\x20"#%\'(),={}]*)\s*=\s*[{"0-9]')
 FIELD_AFTER_COMMA = re.compile(rb',[ \t]*([A-Za-z][^\x00-\x20"#%\'(),={}]*)\s*=\s*[{"]')
@@ -150,6 +169,7 @@ def pattern_of(row: str) -> "re.Pattern[str]":
 BEGINNINGS = [(VARIES.split(row)[0], row, words) for row, words in GENERAL.items()]
 
 
+@lru_cache(maxsize=1000)
 def general(text: str) -> Optional[str]:
     """What to do about a message by its text alone."""
     for begin, row, words in BEGINNINGS:
@@ -161,36 +181,77 @@ def general(text: str) -> Optional[str]:
 
 def remedy_of(text: str, keys: Union[Names, Iterable[str]] = (), strings: Union[Names, Iterable[str]] = ()) -> Optional[str]:
     """What to do about a message; the keys and the strings are those that it may have meant."""
-    keys, strings = names_of(keys), names_of(strings)
-    found = re.fullmatch(r'I didn\'t find a database entry for "(.*)"', text, re.DOTALL)
-    form = keys.other_form(found[1]) if found else None
+    remedy: Optional[str] = None
+    if text.startswith("I didn't find "):
+        remedy = of_no_entry(text, names_of(keys))
+    elif text.startswith("A bad cross reference"):
+        remedy = of_bad_parent(text, names_of(keys))
+    elif text.startswith("string name "):
+        remedy = of_no_string(text, names_of(strings))
+    elif text.startswith("Too many commas "):
+        remedy = of_commas(text)
+    return remedy or general(text)
+
+
+def of_no_entry(text: str, keys: Names) -> Optional[str]:
+    """What to do about a key without an entry, where other keys are meant."""
+    found = NO_ENTRY.fullmatch(text)
+    if found is None:
+        return None
+    key = found[1]
+    if not key:
+        return EMPTY_CITE
+    form = keys.other_form(key)
     if form:
         return said(SEEN["OtherForm"], form)
-    near = keys.nearest(found[1]) if found else None
-    pair = two_keys(found[1], keys) if found else None
+    near, pair = keys.nearest(key), two_keys(key, keys)
     if pair:
         return said(SEEN["SemicolonInCite"], ",".join(pair))
-    if found and has_key(found[1].split(";"), keys):
-        return said(SEEN["SemicolonInCite"], ",".join(part.strip() for part in found[1].split(";") if part.strip()))
-    if found and near:
-        return said(SEEN["NearKey"], found[1], near)
-    found = re.fullmatch(r'A bad cross reference--entry ".*" refers to entry "(.*)", which doesn\'t exist', text, re.DOTALL)
+    if has_key(key.split(";"), keys):
+        return said(SEEN["SemicolonInCite"], ",".join(part.strip() for part in key.split(";") if part.strip()))
+    return said(SEEN["NearKey"], key, near) if near else None
+
+
+def of_bad_parent(text: str, keys: Names) -> Optional[str]:
+    """What to do about a parent that isn't there, where another one is meant."""
+    found = BAD_PARENT.fullmatch(text)
+    if found is not None and not found[1]:
+        return "write the key of the parent, or take the field `crossref` out"
     near = keys.other_form(found[1]) or keys.nearest(found[1]) if found else None
-    if found and near:
-        is_there = near.lower() == found[1].lower()
-        return f"move `{near}` below all entries that name it, or cite it" if is_there else said(SEEN["NearParent"], near)
-    found = re.fullmatch(r'string name "(.*)" is undefined', text, re.DOTALL)
-    near = string_meant(found[1], strings) if found else None
-    number = number_meant(found[1]) if found else None
-    if found and found[1][:1] in QUOTES and found[1]:
-        return said(SEEN["NoQuote"], found[1][0])
+    if found is None or not near:
+        return None
+    is_there = near.lower() == found[1].lower()
+    return f"move `{near}` below all entries that name it, or cite it" if is_there else said(SEEN["NearParent"], near)
+
+
+def of_no_string(text: str, strings: Names) -> Optional[str]:
+    """What to do about a name that is no string, where another name or another value is meant."""
+    found = NO_STRING.fullmatch(text)
+    if found is None:
+        return None
+    name = found[1]
+    near, number = string_meant(name, strings), number_meant(name)
+    if name and name[0] in QUOTES:
+        return said(SEEN["NoQuote"], name[0])
+    if name.startswith("\\"):
+        return said(SEEN["BareCommand"], name)
     if number:
         return said(SEEN["LetterForDigit"], *number)
-    found = re.fullmatch(r'Too many commas in name [0-9]+ of "(.*)"', text, re.DOTALL)
-    one, names = (one_name(found[1]), names_by_semicolons(found[1]) or names_by_commas(found[1])) if found else (None, None)
-    if one or names:
-        return said(SEEN["CommasOfOneName"], one) if one else said(SEEN["NamesByCommas"], names or "")
-    return f"is it `{near}`?" if near else general(text)
+    return f"is it `{near}`?" if near else None
+
+
+def of_commas(text: str) -> Optional[str]:
+    """What to do about a name with more than two commas."""
+    found = TOO_MANY_COMMAS.fullmatch(text)
+    if found is None:
+        return None
+    one, names = one_name(found[1]), names_by_semicolons(found[1]) or names_by_commas(found[1])
+    return said(SEEN["CommasOfOneName"], one) if one else said(SEEN["NamesByCommas"], names) if names else None
+
+
+def begins_month(name: str) -> bool:
+    """Whether a name is a month's, or more than three letters of one."""
+    return len(name) > 3 and any(month.startswith(name.lower()) for month in MONTHS)
 
 
 def string_meant(name: str, strings: Names) -> Optional[str]:
@@ -248,11 +309,17 @@ def names_by_commas(quoted: str) -> Optional[str]:
     return " and ".join(map(", ".join, zip(parts[::2], parts[1::2]))) if len(parts) % 2 == 0 else None
 
 
+@lru_cache(maxsize=1000)
+def words_of(warning: str) -> List[str]:
+    """The words of a warning, which are in small letters."""
+    return re.findall(r"[a-z]+", warning)
+
+
 def missed_field(item: Item, warning: str) -> Optional[str]:
     """What to do about a field that a style misses, where another one of the entry may be meant by it."""
     fields = item.records.names_between(item.at + 1, item.last)
-    unusual = [name for name in map(word, fields) if not name.isascii()]
-    for missed in re.findall(r"[a-z]+", warning.lower().rsplit(" in ", 1)[0]):
+    unusual = [] if all(map(bytes.isascii, fields)) else [name for name in map(word, fields) if not name.isascii()]
+    for missed in words_of(warning.lower().rsplit(" in ", 1)[0]):
         for name in unusual:
             if name.translate(ALIKE).strip() == missed:
                 sign = next(sign.translate(ALIKE) for sign in name if sign.translate(ALIKE) != sign)
@@ -282,11 +349,7 @@ class Slipped:
         return f"{self.name}:{self.lines.line_of(place) + 1}"
 
     def begins(self) -> str:
-        return f"@{word(self.text[self.item.start + 1 : self.item.kind_end])}{{{word(self.item.key or b'')}}}, which begins at {self.at(self.item.start)}"
-
-    def before(self) -> bytes:
-        """What stands before the place in its line."""
-        return self.text[max(self.lines.starts[self.line], self.place - MOST_OF_LINE) : self.place]
+        return begins_item(self.name, self.text, self.lines, self.item)
 
     def is_other_item(self) -> bool:
         """Whether another item begins in this line, below the first line of this one."""
@@ -326,6 +389,8 @@ class Slipped:
             return said(SEEN["SemicolonForComma"], f"value of `{owner}`")
         if value[:1] not in b'{"' and word(value[:3])[:1] in QUOTES:
             return said(SEEN["NoQuote"], word(value[:3])[0])
+        if name == b"+":
+            return said(SEEN["PlusForHash"], owner)
         names = self.names_in_one(value) if owner.lower() in ("author", "editor") and name.lower() == b"and" else None
         if names is not None:
             return said(SEEN["NamesInOneValue"], owner, names)
@@ -347,14 +412,46 @@ class Slipped:
         return " and ".join(word(text[1:-1]) for text in texts) if len(texts) > 1 else None
 
     def before_equals(self) -> Optional[str]:
-        """A field's name has ended, and no `=` comes after it: it is of two words."""
-        name = NAME.match(self.text, self.place)
-        before = re.search(rb"([^\x00-\x20\"#%'(),={}]+)[ \t]*$", self.before())
-        is_it = name is not None and before is not None and bool(name[0]) and self.text[name.end() : name.end() + 20].lstrip().startswith(b"=")
-        return said(SEEN["NameOfWords"], word(before[1] + name[0])) if is_it and before is not None and name is not None else None
+        """A name has ended, and no `=` comes after it: another sign does, or the name is of two words."""
+        name, following = last_name(self.above()), NAME.match(self.text, self.place)
+        if not name or following is None:
+            return None
+        more = following[0]
+        if name[-1:] in FOR_EQUALS:
+            return said(SEEN["OtherForEquals"], word(name[:-1]), word(name[-1:]))
+        if len(more) == 1 and more in FOR_EQUALS:
+            return said(SEEN["OtherForEquals"], word(name), word(more))
+        if more and self.text[following.end() : following.end() + 20].lstrip().startswith(b"="):
+            return said(SEEN["NameOfWords"], word(name + more))
+        return said(SEEN["NoEquals"], word(name)) if more or self.text[self.place : self.place + 1] in (b"{", b'"') else None
+
+    def above(self) -> bytes:
+        """What stands before the place in its item, but for whitespace."""
+        return self.text[max(self.item.start, self.place - MOST_OF_LINE) : self.place].rstrip()
+
+    def before_value(self) -> Optional[str]:
+        """A value is expected, and the field ends, or a second `=` comes."""
+        above, here = self.above(), self.text[self.place : self.place + 1]
+        name = last_name(above[:-1]) if above.endswith(b"=") else b""
+        if not name or here not in (b",", b"}", b")", b"="):
+            return None
+        return said(TWO_EQUALS if here == b"=" else SEEN["NoValue"], word(name))
+
+    def before_name(self) -> Optional[str]:
+        """A name is expected, of a field or a string: it stands in quotes, or a comment or a second comma does there."""
+        here, quoted = self.text[self.place : self.place + 1], QUOTED.match(self.text, self.place)
+        if quoted is not None:
+            return said(QUOTED_NAME, word(quoted[1]))
+        if not self.item.is_entry:
+            return None
+        if here == b"%":
+            return SEEN["CommentSign" if COMMENTED_FIELD.match(self.text, self.place) else "CommentLine"]
+        return SEEN["CommaTwice"] if here == b"," else None
 
     def after_key(self, key: str) -> str:
         """After a key something stands in its line that isn't a comma: a part of the key, if a comma comes after it."""
+        if key.endswith(";"):
+            return said(SEEN["SemicolonForComma"], f"key `{key[:-1]}`")
         name = NAME.match(self.text, self.place)
         is_key = name is not None and bool(name[0]) and self.text[name.end() : name.end() + 20].lstrip().startswith(b",")
         if name is None or not is_key or self.lines.line_of(self.item.key_end) != self.line:
@@ -397,19 +494,32 @@ class Slipped:
         return said(SEEN["BreaksOff"], self.begins(), closing) if is_near and is_last else None
 
 
+def last_name(text: bytes) -> bytes:
+    """The name that a text ends with, before its last whitespace."""
+    found = NAME.match(text.rstrip()[::-1])
+    return b"" if found is None else found[0][::-1]
+
+
+def begins_item(name: str, text: bytes, lines: Lines, item: Item) -> str:
+    """An item, and where it begins."""
+    start = item.start
+    return f"{word(text[start : item.kind_end] + b'{' + (item.key or b''))}}}, which begins at {name}:{lines.line_of(start) + 1}"
+
+
 def is_hidden(text: bytes, lines: Lines, item: Item) -> bool:
     """Whether an entry was meant to be hidden: its line begins with a `%` or a `@comment`."""
+    if not item.is_entry or text[item.start - 1 : item.start] in (b"\n", b""):
+        return False
     begin = lines.starts[lines.line_of(item.start)]
     start = text[begin : min(item.start, begin + MOST_OF_LINE)].lstrip()[:8]
-    return item.is_entry and (start.startswith(b"%") or start.lower() == b"@comment")
+    return start.startswith(b"%") or start.lower() == b"@comment"
 
 
 def not_hidden(name: str, text: bytes, lines: Lines, item: Item) -> Optional[str]:
     """What to do about an entry that was meant to be hidden."""
     if not is_hidden(text, lines, item):
         return None
-    kind = word(text[item.start + 1 : item.kind_end])
-    return said(SEEN["NotHidden"], f"@{kind}{{{word(item.key or b'')}}}, which begins at {name}:{lines.line_of(item.start) + 1}")
+    return said(SEEN["NotHidden"], begins_item(name, text, lines, item))
 
 
 def field_for_each_name(item: Item, name: str) -> Optional[str]:
@@ -447,7 +557,6 @@ def of_mistake(name: str, text: bytes, lines: Lines, item: Item) -> Optional[str
     if hidden is not None:
         return hidden
     slipped, error = Slipped(name, text, lines, item), item.slip.text
-    here = text[slipped.place : slipped.place + 1]
     found: Optional[str] = None
     if error.startswith("I was expecting a , or a"):
         found = slipped.after_part()
@@ -455,10 +564,12 @@ def of_mistake(name: str, text: bytes, lines: Lines, item: Item) -> Optional[str
         found = slipped.at_end()
     elif slipped.is_other_item() and item.is_entry:
         found = said(SEEN["NotClosed"], slipped.begins())
-    elif error == "I was expecting an =" and item.is_entry:
+    elif error == "I was expecting an =":
         found = slipped.before_equals()
-    elif error == "I was expecting a name" and item.is_entry:
-        found = SEEN["CommentSign" if COMMENTED_FIELD.match(text, slipped.place) else "CommentLine"] if here == b"%" else SEEN["CommaTwice"] if here == b"," else None
+    elif error == "I was expecting a name":
+        found = slipped.before_name()
+    elif error == "I was expecting a value":
+        found = slipped.before_value()
     return found or general(error)
 
 

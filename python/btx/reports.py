@@ -13,6 +13,7 @@ from dataclasses import asdict, dataclass
 from types import TracebackType
 from typing import Any, Dict, List, Optional, TextIO, Tuple, Type
 
+from .commands import shown
 from .corpus import Job, state_of
 
 __all__ = ["Compared", "Progress", "Resumed", "Table"]
@@ -50,13 +51,6 @@ class Compared:
 
 def side(line: Optional[str]) -> str:
     return "(no such line)" if line is None else repr(line)
-
-
-def shown(text: str) -> str:
-    """A text as it may be printed on a terminal or written as UTF-8."""
-    if text.isprintable():
-        return text
-    return "".join(character if character.isprintable() else "?" for character in text.encode("utf8", "replace").decode("utf8"))
 
 
 class Progress:

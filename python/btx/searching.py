@@ -4,14 +4,12 @@ of folders."""
 from __future__ import annotations
 
 import ctypes
-import ctypes.util
 import errno
 import functools
 import os
 import re
 import shutil
 import stat
-import subprocess
 import threading
 from dataclasses import dataclass, replace
 from typing import BinaryIO, FrozenSet, List, Optional, Tuple, Union
@@ -172,6 +170,8 @@ class SearchFrom(Search):
             return next((path for path in (os.path.join(folder, name) for folder in folders) if os.path.isfile(os.path.join(self.folder, path))), None)
         if b"\0" in name:
             return None
+        import subprocess
+
         kpsewhich = os.path.abspath(os.fsencode(shutil.which("kpsewhich") or "kpsewhich"))
         words = [kpsewhich, b"-progname=bibtex", b"-format=" + ending[1:], b"--", name]
         done = subprocess.run(words, cwd=self.folder, stdin=subprocess.DEVNULL, stdout=subprocess.PIPE, stderr=subprocess.DEVNULL)

@@ -37,6 +37,9 @@ CAPABILITIES = {
     "semanticTokensProvider": {"legend": {"tokenTypes": list(TYPES), "tokenModifiers": list(MODIFIERS)}, "full": True, "range": True},
 }
 
+# The files on disk whose changes a client is asked to tell.
+WATCHED = {"id": "files", "method": "workspace/didChangeWatchedFiles", "registerOptions": {"watchers": [{"globPattern": "**/*.{bib,bst,aux}"}]}}
+
 
 class Refused(Exception):
     """A request that can't be answered: a code of the protocol, and why."""
@@ -63,16 +66,18 @@ class Server:
     def __init__(self, wire: Wire) -> None:
         self.wire = wire
         self.workspace = Workspace()
-        self.is_ready = self.is_down = False
+        self.is_ready = self.is_down = self.can_watch = False
         self.changed: Dict[str, None] = {}
         # What is said of texts, and of which of them not all is sent yet.
         self.known: Dict[str, Diagnosis] = {}
         self.unfinished: Dict[str, None] = {}
         self.methods: Dict[str, Callable[[Dict[str, Any]], Any]] = {
+            "initialized": self.initialized,
+            "workspace/didChangeWatchedFiles": self.look_again,
             "textDocument/didOpen": self.did_open,
             "textDocument/didChange": self.did_change,
             "textDocument/didClose": self.did_close,
-            "textDocument/didSave": self.did_save,
+            "textDocument/didSave": self.look_again,
             "textDocument/hover": self.hover,
             "textDocument/definition": self.definition,
             "textDocument/references": self.references,
@@ -129,7 +134,7 @@ class Server:
 
     def answer(self, method: str, params: Any, is_request: bool) -> Any:
         if method == "initialize":
-            self.is_ready = True
+            self.is_ready, self.can_watch = True, may_watch(params)
             return {"capabilities": CAPABILITIES, "serverInfo": {"name": "btx"}}
         if not self.is_ready:
             raise Refused(NOT_INITIALIZED, "the first request is initialize")
@@ -150,11 +155,19 @@ class Server:
 
     # ---- texts ----
 
+    def initialized(self, params: Any) -> None:
+        """Asks a client that can watch files to tell what changes on disk."""
+        if self.can_watch:
+            self.wire.send({"id": "watch", "method": "client/registerCapability", "params": {"registrations": [WATCHED]}})
+
     def did_open(self, params: Dict[str, Any]) -> None:
         given = params["textDocument"]
-        self.forget(given["uri"])
-        self.workspace.open[given["uri"]] = Document(given["uri"], given["text"], given.get("version"))
-        self.changed[given["uri"]] = None
+        uri, text = given["uri"], given["text"]
+        if not isinstance(uri, str) or not isinstance(text, str):
+            raise Refused(BAD_PARAMS, "the uri and the text of a document are texts")
+        self.forget(uri)
+        self.workspace.open[uri] = Document(uri, text, given.get("version"))
+        self.changed[uri] = None
 
     def did_change(self, params: Dict[str, Any]) -> None:
         document = self.document(params)
@@ -163,8 +176,8 @@ class Server:
         document.change(params["contentChanges"])
         document.version = params["textDocument"].get("version")
 
-    def did_save(self, params: Dict[str, Any]) -> None:
-        """Looks again at the texts that may depend on what was saved."""
+    def look_again(self, params: Any) -> None:
+        """Looks again at all open texts: each may depend on what was saved, or was changed by another program."""
         self.known.clear()
         self.unfinished.clear()
         self.changed.update(dict.fromkeys(self.workspace.open))
@@ -311,6 +324,13 @@ class Server:
         asked = params.get("range")
         touched = () if asked is None else (document.place(asked["start"]), document.place(asked["end"]))
         return {"data": data_of(document, tokens_of(document.text, self.workspace.style(document)), *touched)}
+
+
+def may_watch(params: Any) -> bool:
+    """Whether a client can be asked to watch files, by what it says when it begins."""
+    for name in ("capabilities", "workspace", "didChangeWatchedFiles"):
+        params = params.get(name) if isinstance(params, dict) else None
+    return isinstance(params, dict) and params.get("dynamicRegistration") is True
 
 
 def location(place: Place) -> Dict[str, Any]:

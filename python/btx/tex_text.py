@@ -2,17 +2,19 @@
 
 from __future__ import annotations
 
+import os
 import re
 from typing import Iterator, List, Optional, Set, Tuple
 
 from .citing import CITES, KEY
 
-__all__ = ["cites_in", "is_read", "read_by_tex", "unread_spans"]
+__all__ = ["cites_in", "files_read", "is_read", "read_by_tex", "unread_spans"]
 
 # Commands that have `cite` in their names and cite nothing.
 CITE_NOTHING = re.compile(rb"\\(?:set|bib|new|def|Declare)[A-Za-z]*[cC]ite|\\[cC]ite(?:style|text|reset)")
 BEGINS = re.compile(rb"%|\\(?:begin\{(comment|verbatim\*?|lstlisting)\}|(iffalse|verb)(?![A-Za-z])|(end)\{document\})")
 FI = re.compile(rb"\\fi(?![A-Za-z])")
+READS = re.compile(rb"\\(?:input|include|subfile)\{([^{}\r\n]*)\}")
 NO_LINE_END = re.compile(rb"[^\n]")
 # How many bytes what `\verb` prints has at most.
 MOST_OF_VERB = 1000
@@ -69,6 +71,12 @@ def read_by_tex(text: bytes) -> bytes:
         pieces += [text[at:start], NO_LINE_END.sub(b" ", text[start:end])]
         at = end
     return b"".join([*pieces, text[at:]])
+
+
+def files_read(text: bytes) -> List[str]:
+    """The files that a text reads, of which TeX reads all: their paths from the folder in which TeX is called, each once."""
+    names = (os.fsdecode(found[1].strip()) for found in READS.finditer(text))
+    return list(dict.fromkeys(name if name.endswith(".tex") else name + ".tex" for name in names if "\0" not in name))
 
 
 def is_read(text: bytes, place: int, read: bytes) -> bool:

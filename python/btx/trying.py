@@ -3,7 +3,7 @@
 from __future__ import annotations
 
 import itertools
-from typing import Dict, FrozenSet, Iterable, NamedTuple, Optional
+from typing import Dict, FrozenSet, Iterable, NamedTuple, Optional, Tuple
 
 from .events import Met, Severity
 from .jobs import run
@@ -98,6 +98,7 @@ class Printing:
         self.probers: Dict[bytes, Prober] = {}
         self.printed: Dict[bytes, Dict[bytes, bool]] = {}
         self.lowered: Dict[bytes, bool] = {}
+        self.missed: Dict[Tuple[bytes, Tuple[bytes, ...]], bool] = {}
 
     def prober(self, kind: bytes) -> Optional[Prober]:
         """What tries entries of a type; None where enough was tried."""
@@ -127,6 +128,18 @@ class Printing:
             is_printed = counts(prober, name.decode("latin1"), beside)
             known[name] = is_printed or not prober.has_ended
         return known[name]
+
+    def misses(self, kind: bytes, names: Tuple[bytes, ...]) -> bool:
+        """Whether the style warns of an entry of a type that has all fields but these."""
+        kind = self.known_kind(kind)
+        if (kind, names) not in self.missed:
+            prober = self.prober(kind)
+            if prober is None:
+                return False
+            whole = frozenset(prober.fields)
+            warned = prober.show(whole.difference(name.decode("latin1") for name in names)).warnings - prober.show(whole).warnings
+            self.missed[kind, names] = prober.has_ended and bool(warned)
+        return self.missed[kind, names]
 
     def lowers(self, kind: bytes) -> bool:
         """Whether the title of entries of a type is written in small letters."""

@@ -16,6 +16,7 @@ from .doctor import Source, Style
 from .outline import Outline, outline_of
 from .pieces import Examination, Pieces
 from .searching import Search, content_of, found_search
+from .tex_text import files_read, read_by_tex
 
 __all__ = ["StyleInUse", "Workspace", "path_of", "uri_of"]
 
@@ -26,6 +27,8 @@ StyleInUse = Tuple[Document, Style, StyleText]
 MOST_BYTES = 8_000_000
 # How many files of a folder are read beside an open one.
 MOST_FILES = 200
+# How many folders above a text are looked through for the document that reads it.
+MOST_ABOVE = 2
 # (a name with a command in it, as in \bibliography{\jobname}, is known to the .aux file alone)
 BIBSTYLE = re.compile(rb"(?m)\\bib(?:liography)?style\{([^}\\\r\n]*)\}")
 BIBDATA = re.compile(rb"(?m)\\bib(?:data|liography)\{([^}\\\r\n]*)\}")
@@ -81,9 +84,12 @@ class Workspace:
 
     def beside(self, document: Document, *endings: str) -> Iterator[Document]:
         """The files in the folder of a text that end so, the text itself first."""
-        folder = os.path.dirname(path_of(document.uri))
         if document.uri.endswith(endings):
             yield document
+        yield from (it for it in self.in_folder(os.path.dirname(path_of(document.uri)), *endings) if it.uri != document.uri)
+
+    def in_folder(self, folder: str, *endings: str) -> Iterator[Document]:
+        """The files of a folder that end so, with those that are open and not on disk."""
         try:
             names = sorted(name for name in os.listdir(folder) if name.endswith(endings))
         except (OSError, ValueError):
@@ -92,8 +98,38 @@ class Workspace:
         paths = dict.fromkeys([os.path.join(folder, name) for name in names[:MOST_FILES]] + [path_of(uri) for uri in opened])
         for path in paths:
             found = self.document(path)
-            if found is not None and found.uri != document.uri:
+            if found is not None:
                 yield found
+
+    def of_document(self, document: Document, *endings: str) -> List[Document]:
+        """The files in the folder of a text that end so, and all texts that are read from there. The folder is the text's own, and one above where a `.tex` file there reads the text."""
+        folder = os.path.dirname(path_of(document.uri))
+        files = [*self.beside(document, *endings), *self.read_from(folder)]
+        above = self.folder_that_reads(document)
+        if above is not None:
+            files += [*self.in_folder(above, *endings), *self.read_from(above)]
+        return list({it.uri: it for it in files}.values())
+
+    def folder_that_reads(self, document: Document) -> Optional[str]:
+        """The folder above a text where a `.tex` file reads it."""
+        folder = os.path.dirname(path_of(document.uri))
+        for _ in range(MOST_ABOVE if document.uri.endswith(".tex") else 0):
+            folder = os.path.dirname(folder)
+            if any(it.uri == document.uri for it in self.read_from(folder)):
+                return folder
+        return None
+
+    def read_from(self, folder: str) -> List[Document]:
+        """The `.tex` files of a folder, and the texts that they read when TeX is called there, and those that these read."""
+        waiting = list(self.in_folder(folder, ".tex"))
+        found = {it.uri: it for it in waiting}
+        while waiting and len(found) < MOST_FILES:
+            names = self.made("files read", waiting.pop(0), lambda text: files_read(read_by_tex(text)))
+            others = [self.document(os.path.join(folder, name)) for name in names]
+            new = [it for it in others if it is not None and it.uri not in found]
+            found.update((it.uri, it) for it in new)
+            waiting += new
+        return list(found.values())
 
     def made(self, what: str, document: Document, make: "Callable[[bytes], Any]") -> Any:
         """What is made of a text. It is kept until the text changes."""

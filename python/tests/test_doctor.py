@@ -49,10 +49,19 @@ ROWS = [
     ("von-letter", "@misc{k, author = {<Émile> Zola}}".encode(), "@misc{k, author = {Zola, Émile and {\\'E}mile Zola and Émile and ÉA Zola and É{\\'M}ile Zola}}".encode()),
     ("bare-organization", b"@misc{k, author = {A Bee and <World Health Organization>}}", b"@misc{k, author = {{World Health Organization} and UNESCO and Committee and Pat O'Groups}}"),
     ("bare-organization", "@misc{k, editor = \"<Universität zu Köln>\"}".encode(), "@misc{k, editor = {{Universität zu Köln} and Jo Universitätsen}}".encode()),
+    ("not-hidden", b"% so <@misc>{k, note = {A}}", b"@misc{k, note = {\n% a@b}}\n@misc{j}\n@comment{x}\n@misc{l}"),
+    ("not-hidden", b"@misc{k}\n @Comment{ <@misc>{j} }", b"@misc{k} % @misc{j}\n@comments{x} @misc{l}"),
     ("names-by-sign", b"@misc{k, author = {Bee, A.<;> Dee, C.}}", b"@misc{k, author = {{Bee; Dee} and Bee, A. and {Smith \\& Sons}}}"),
     ("names-by-sign", b"@misc{k, author = {A. Bee <\\&> C. Dee}}", b"@misc{k, author = {A. Bee and C. Dee}}"),
     ("names-by-commas", b"@misc{k, author = {<Ann Bee, Cid Dee, Eve Eff>}}", b"@misc{k, author = {King, Jr., Martin and Bee, A. and de la Cruz, Jr., A. B.}}"),
     ("names-by-commas", b"@misc{k, author = {<Bee, A., Dee, C.>}}", b"@misc{k, author = {Bee, A. and Dee, C.}}"),
+    ("names-by-commas", b"@misc{k, author = {<Bee, A.and Cee, D.>}}", b"@misc{k, author = {Lee, {A. and B.}, Ann and Ann and Bo}}"),
+    ("names-by-commas", b"@misc{k, author = {<Bee, A. et Cee, D.>}}", b"@misc{k, author = {King, M., Jr.}}"),
+    ("names-by-commas", b"@misc{k, author = {<Bee, A., Cee>}}", b"@misc{k, author = {Lee, II, A. B.}}"),
+    ("names-by-commas", b"@misc{k, author = {<A. Bee, C. Dee> and E. Fee}}", b"@misc{k, author = {A. Bee and Dee, C. D. and E. Fee, Jr. and A. Gee, Inc.}}"),
+    ("stray-and", b"@misc{k, author = {A. Bee <and>}}", b"@misc{k, author = {A. Bee and Andy Dee}}"),
+    ("stray-and", b"@misc{k, author = {A. Bee AND\n <and> C. Dee}}", b"@misc{k, author = {A. Bee and {and} and Ann}}"),
+    ("stray-and", b"@misc{k, author = { <And> C. Dee}}", b"@misc{k, author = {{A. Bee and}}}"),
     ("suffix-last", b"@misc{k, author = {A. Bee and <Guy L. Steele, Jr.>}}", b"@misc{k, author = {Steele, Jr., Guy L. and Steele Jr., Guy and King III and Jr., Guy and {Steele, Jr.}}}"),
     ("suffix-last", b"@misc{k, editor = {<King, Martin,~III> and C. Dee}}", b"@misc{k, editor = {King, III, Martin and Strunk, Jr and Senior, Sra}}"),
     ("no-break-space", b"@misc{k, author = {A. Bee<\xc2\xa0>and C. Dee}}", "@misc{k, author = {Émile Zola and {A.\xa0Bee}}}".encode()),
@@ -67,6 +76,8 @@ ROWS = [
     ("misspelt-field", b"@misc{k, <page> = 1}", b"@misc{k, pages = 1, page = 2, date = 3, url2 = 4, idnumber = 5}"),
     ("missing-field", b"@manual{<k>}", b"@manual{k, title = {T}} @misc{j} @online{l}"),
     ("missing-in-parent", b"@manual{<k>, crossref = {p}} @misc{p}", b"@manual{k, crossref = {p}} @misc{p, title = {T}} @manual{l, crossref = {m}}"),
+    ("no-parent", b"@misc{k, <crossref> = {Q}} @book{p}", b"@misc{k, crossref = {Q}} @book{q}"),
+    ("nested-parent", b"@misc{k, <crossref> = {p}} @book{p, crossref = {q}} @book{q}", b"@misc{k, crossref = {p}} @misc{l, crossref = {p}} @book{p}"),
     ("parent-above", b"@book{p, title = {T}} @misc{k, <crossref> = {P}}", b"@misc{k, crossref = {p}} @book{p, title = {T}} @misc{l, crossref = {p}} @misc{m, crossref = {q}}"),
     ("year-of-words", b"@misc{k, year = <{to appear}>}", b"@misc{k, year = {1998}} @misc{j, year = {in press 2001}} @misc{l, year = {(1998)}}"),
     ("lost-capitals", b"@misc{k, title = {A structure for <DNA> of it}}", b"@misc{k, title = {A Structure for {DNA}}} @book{j, title = {A structure for DNA}} @misc{l, title = {On Low-Cost Printers}}"),
@@ -81,7 +92,7 @@ ROWS = [
     ("month-text", b"@misc{k, month = <\"January\">}", b"@misc{k, month = jan} @misc{j, month = {Spring}}"),
 ]
 # What is found when all databases are read, and not in pieces of a text.
-OF_WHOLE = frozenset(("not-utf8", "names-exchanged", "missing-in-parent", "parent-above"))
+OF_WHOLE = frozenset(("not-utf8", "not-hidden", "names-exchanged", "missing-in-parent", "no-parent", "nested-parent", "parent-above"))
 OF_STYLE = [
     ("unread-field", b"@misc{k, <note> = {A}}", b"@misc{k, title = {A}, crossref = {x}}"),
     ("unknown-type", b"<@article>{k}", b"@book{k}"),
@@ -93,7 +104,7 @@ OF_STYLE = [
 # A style that prints where an article was published, and of a misc how; both titles in small letters but a book's.
 PRINTING = b"""ENTRY {author title journal howpublished volume number institute} {} {}
 FUNCTION {show} {duplicate$ empty$ {pop$} {write$ newline$} if$}
-FUNCTION {article} {title "t" change.case$ write$ newline$ journal show volume empty$ {number show} {volume show} if$}
+FUNCTION {article} {title empty$ {"empty title in " cite$ * warning$} 'skip$ if$ title "t" change.case$ write$ newline$ journal show volume empty$ {number show} {volume show} if$}
 FUNCTION {misc} {title "t" change.case$ write$ newline$ howpublished show}
 FUNCTION {book} {title show}
 FUNCTION {techreport} {title show institute show}
@@ -101,6 +112,7 @@ READ
 ITERATE {call.type$}
 """
 OF_PRINTING = [
+    ("missed-field", b"@article{<k>, journal = {J}}", b"@article{k, title = {T}} @misc{j} @article{l, title = {T}}, year = 1}"),
     ("unprinted-field", b"@misc{k, title = {T}, <journal> = {J}}", b"@misc{k, title = {T}, journal = {J}, howpublished = {H}} @article{l, title = {T}, journal = {J}, volume = 1, number = 2}"),
     ("unprinted-field", b"@book{k, title = {T}, <volume> = 1}", b"@book{k, title = {T}, abstract = {A}, keywords = {K}, file = {F}} @online{k, journal = {J}} @misc{l, journal = {J}, crossref = {k}}"),
     ("lowered-tex", b"@misc{k, title = {The <\\TeX>}}", b"@book{k, title = {The \\TeX}}"),
@@ -271,6 +283,21 @@ class Checks(unittest.TestCase):
         steps, more = (calls_of(lambda number=number: said(*(b"pages = %d" % it for it in range(number)))) for number in (250, 1000))
         self.assertLess(more, 5 * steps)
 
+    def test_parents_are_said_as_a_run_says_them(self):
+        """With each entry stored, by the style of the run that stops least."""
+        database = b"@misc{a, crossref = {nope}} @misc{b, crossref = {B}} @misc{c, crossref = {B}} @misc{d, crossref = {}} @misc{e, crossref = { f }} @misc{f}"
+        files = {"j.aux": b"\\citation{*}\n\\bibstyle{s}\n\\bibdata{d}\n", "s.bst": b"ENTRY {}{}{} FUNCTION {misc} {} READ", "d.bib": database}
+        logged = [it.text for it in btx.messages_of(btx.run("j", files).log) if "cross references" in it.text or "cross reference" in it.text]
+        said = [it.text for it in found_in(database) if it.check in ("no-parent", "nested-parent")]
+        self.assertEqual((said, len(said)), (logged, 4))
+
+    def test_what_follows_from_a_brace_isnt_said(self):
+        said = lambda text: [it.check for it in examine([Source("d.bib", text)]) if it.check in ("missing-field", "names-by-commas", "fields-in-text", "mistake")]  # noqa: E731
+        self.assertEqual(said(b"@book{a, author={A}, title={T}}, publisher={P}, year=2000}"), ["fields-in-text"])
+        self.assertEqual(said(b"@book{a, author={A}, title={T}}, year=2000}"), ["missing-field", "fields-in-text"])
+        self.assertEqual(said(b"@book{c, author={{B}, title={T}, publisher={P}, year=2000}\n"), ["mistake"])
+        self.assertEqual(said(b"@misc{c, author={B, C, D, E} note}\n"), ["names-by-commas", "mistake"])
+
     def test_of_two_exchanged_names_neither_tells(self):
         said = lambda text: [it.check for it in found_in(text) if it.check == "names-exchanged"]
         self.assertEqual(said(b"@misc{k, author = {Wei Zhang and Zhang Wei}}"), [])
@@ -334,6 +361,18 @@ class Edited(unittest.TestCase):
                     at, other = maker.randrange(len(text) + 1), maker.randrange(len(text) + 1)
                     to = min(len(text), at + maker.randrange(30))
                     text = text[:at] + maker.choice((maker.choice(put), b"", text[at:to] * 2, text[other : other + 100])) + text[to if edit % 2 else at :]
+
+    def test_what_an_editor_misses_of_two_databases_is_listed(self):
+        """An editor's database is examined by itself."""
+        entry = b"title = {A Title That Is Long}, year = 2000"
+        one = Source("1.bib", b"@string{s = {A}} @misc{a, %s} @misc{b, doi = {1}} @misc{c}" % entry)
+        two = Source("2.bib", b"@misc{d, %s} @misc{e, doi = {1}} @misc{C} @misc{f, note = s}" % entry)
+        apart = {it.check for source in (one, two) for it in Pieces().examine(source, None)}
+        differ = apart ^ {it.check for it in examine([one, two])}
+        self.assertEqual(differ, {"repeated-key", "repeated-doi", "repeated-title", "undefined-string"})
+        readme = (pathlib.Path(__file__).resolve().parent.parent / "README.md").read_text()
+        (listed,) = re.findall(r"What needs all databases is seen by this command alone.*?\n\n", readme, re.DOTALL)
+        self.assertEqual([check for check in (*differ, *OF_WHOLE) if f"`{check}`" not in listed], [])
 
     def test_few_bytes_are_read_again(self):
         text = b"@string{s = {x}}\n" + b"".join(b"@misc{k%d, title = {A Title That Is Long}, note = s, year = %d}\n" % (number, number) for number in range(20_000))
@@ -474,18 +513,38 @@ ITERATE {call.type$}
 
     def test_entries_that_nothing_cites(self):
         database = {"d.bib": b"@misc{k, author = {A. B}} @misc{one, author = {A. B}} @misc{two, author = {C. D}}\n"}
-        self.assertEqual(self.said(database), (0, ["2 entries are cited by nothing: one, two (--each prints a line for each) [uncited]"]))
+        self.assertEqual(self.said(database), (0, ["2 entries are not cited in j.aux: one, two (--each prints a line for each) [uncited]"]))
         self.assertEqual(len(self.said(database, words=["--each"])[1]), 2)
         for aux in (b"\\citation{k }\n\\bibdata{d}\n\\bibstyle{s}\n", b"\\abx@aux@cite{0}{k}\n", b"\\citation{k}\n\\citation{on"):
             with self.subTest(aux=aux):
                 status, lines = self.said(database, aux)
                 self.assertEqual((status, [line for line in lines if "uncited" in line]), (2, []))
 
+    def test_entries_that_another_aux_file_cites(self):
+        """multibib and bibunits write several `.aux` files for one document. Those of other databases don't count."""
+        files = {"d.bib": b"@misc{k, author = {A. B}} @misc{one, author = {A. B}} @misc{two, author = {C. D}}\n"}
+        files.update({"sec.aux": b"\\citation{One}\n\\bibdata{e,d}\n", "other.aux": b"\\citation{two}\n\\bibdata{e}\n"})
+        self.assertEqual(self.said(files), (0, ["1 entry is not cited in j.aux: two (--each prints a line for each) [uncited]"]))
+        self.assertEqual(self.said(files, words=["--each"])[1], ["d.bib:1:61: info: not cited in j.aux (two) [uncited]"])
+        self.assertEqual(self.said({**files, "all.aux": b"\\citation{*}\n\\bibdata{d}\n"}), (0, []))
+
     def test_files_that_are_not_there(self):
         status, lines = self.said({"d.bib": b"@misc{k, author = {A. B}}"}, b"\\citation{k}\n\\bibdata{texts/d}\n\\bibstyle{s}\n")
         self.assertEqual((status, lines[0]), (2, "j.aux:2:10: error: I couldn't open database file texts/d.bib [logged-error]"))
         status, lines = self.said({"d.bib": b"@misc{k, author = {A. B}}"}, b"\\citation{k}\n\\bibdata{d}\n\\bibdata{e}\n\\bibstyle{s}\n")
         self.assertEqual((status, lines[0]), (2, "j.aux:3:1: error: Illegal, another \\bibdata command [logged-error]"))
+
+    def test_what_a_document_shows_of_its_aux_file(self):
+        database, whole = {"d.bib": b"@misc{k, author = {A. B}}"}, b"\\citation{k}\n\\bibdata{d}\n\\bibstyle{s}\n"
+        rows = (
+            (whole + b"\\bibstyle{plain}\n", b"\\bibliographystyle{s}\n\\bibliographystyle{plain}\n", said(SEEN["OtherStyle"], "s", "j.tex:1", "plain", "2")),
+            (b"\\citation{k}\n\\bibdata{d}\n", b"\\cite{k}\n\\bibliography{d}\n", said(SEEN["NoStyleInDocument"], "j.tex:2")),
+            (b"\\citation{k}\n\\bibdata{d}\n", b"\\cite{k}\n\n\\bibliographystyle{s}\n", said(SEEN["OlderAux"], "j.tex:3", "\\bibliographystyle")),
+            (b"\\citation{k}\n\\bibstyle{s}\n", b"\\bibliography{d}\n", said(SEEN["OlderAux"], "j.tex:1", "\\bibliography")),
+        )
+        for aux, document, remedy in rows:
+            with self.subTest(aux=aux, document=document):
+                self.assertIn(f"    what to do: {remedy}", self.said({**database, "j.tex": document}, aux)[1])
 
     def test_aux_files_that_break_off_and_those_of_biblatex(self):
         database = {"d.bib": b"@misc{k, author = {A. B}}"}
@@ -529,8 +588,8 @@ ITERATE {call.type$}
         database = {"d.bib": b"@misc{k, author = {A. B}} @misc{Late, author = {A. B}} @misc{other, author = {A. B}} @misc{no, author = {A. B}}\n"}
         text = b"\\cite{k} % \\cite{no}\n\\iffalse\n\\cite{no}\n\\fi\\citestyle{no}\\verb|\\cite{no}|\n\\citep[see][p. 1]{k, late,nosuch}\\Citet{other}\n\\end{document}\\cite{no}\n"
         said_of = ["j.tex:5:22: warning: `late` and another key are cited here and not in j.aux, which is older [older-aux]", "    what to do: run LaTeX, then BibTeX"]
-        self.assertEqual(self.said({**database, "j.tex": text}), (0, [*said_of, "1 entry is cited by nothing: no (--each prints a line for each) [uncited]"]))
-        self.assertEqual(self.said({**database, "j.tex": text}, older="j.tex")[1], ["3 entries are cited by nothing: Late, other, no (--each prints a line for each) [uncited]"])
+        self.assertEqual(self.said({**database, "j.tex": text}), (0, [*said_of, "1 entry is not cited in j.aux: no (--each prints a line for each) [uncited]"]))
+        self.assertEqual(self.said({**database, "j.tex": text}, older="j.tex")[1], ["3 entries are not cited in j.aux: Late, other, no (--each prints a line for each) [uncited]"])
 
     def test_faults_of_a_style_of_ones_own(self):
         """They are said of the style, once, and of no entry; names that a style can't divide stay with their entry."""
@@ -610,11 +669,26 @@ class WhatToDo(unittest.TestCase):
         (b"@misc{k, note = in press}", SEEN["BareValue"].replace("$1", "note")),
         (b"\xff\xfe@\0m\0", "save d.bib as UTF-8: it is in UTF-16"),
         (b"@misc{k, month = sept}", "is it `sep`?"),
+        (b"@misc{k, title = sept}", "is it `sep`?"),
+        (b"@misc{k, journal = jna}", "define `jna` by `@string` above its use, or put braces or quotes round a text"),
         (b"@misc{k, note = s}\n\n@string{s = {A}}", "move the `@string` of `s` (d.bib:3) above its first use"),
-        (b"@misc{k} @misc{k}", "remove one of the two"),
+        (b"@misc{j}\n@Book{K} @misc{k}", "remove one of the two: the first is @Book{K}, which begins at d.bib:2"),
         (b"@misc{k, note = {A}; year = 1}", said(SEEN["SemicolonForComma"], "value of `note`")),
         (b"@misc{k, author = {Doe, Jane} and {Roe, Max},\n note = {A}}", said(SEEN["NamesInOneValue"], "author", "Doe, Jane and Roe, Max")),
         (b"@misc{k, book title = {A}}", said(SEEN["NameOfWords"], "booktitle")),
+        (b"% @misc{k, note = {A}}", said(SEEN["NotHidden"], "@misc{k}, which begins at d.bib:1")),
+        (b"@misc{k; note = {A}}", said(SEEN["SemicolonForComma"], "key `k`")),
+        (b"@misc{k,\n note:\n{A}}", said(SEEN["OtherForEquals"], "note", ":")),
+        (b"@misc{k, note ~ {A}}", said(SEEN["OtherForEquals"], "note", "~")),
+        (b"@misc{k, note {A}}", said(SEEN["NoEquals"], "note")),
+        (b"@misc{k, note = , year = 1}", said(SEEN["NoValue"], "note")),
+        (b"@misc{k, note = {A} # , year = 1}", "put braces or quotes round a text"),
+        (b"@misc{k, note = {A} + {B}}", said(SEEN["PlusForHash"], "note")),
+        (b"@misc{k, note == {A}}", "take out one of the two `=` after `note`"),
+        (b'@misc{k, "note" = {A}}', "write the name without quotes: `note`"),
+        (b'@string{"s" = {A}}', "write the name without quotes: `s`"),
+        (b"@misc{k, note = ``A''}", said(SEEN["NoQuote"], "`")),
+        (b"@misc{k, note = \\url{A}}", said(SEEN["BareCommand"], "\\url")),
         ("@misc{k, note = \u201cA\u201d}".encode(), said(SEEN["NoQuote"], "\u201c")),
         (b"@misc{k,\n title = {T {\\em x},\n note = {J}\n}\n", said(SEEN["RunsOn"], "title", "d.bib:2", "note", "d.bib:3")),
         (b"@misc{k, month = March}", "is it `mar`?"),
@@ -630,6 +704,18 @@ class WhatToDo(unittest.TestCase):
                 source = Source("d.bib", text)
                 said = [Remedies([source]).of(finding, btx.bibtext.Lines(text)) for finding in examine([source])]
                 self.assertIn(remedy, said)
+
+    def test_an_and_without_a_name(self):
+        """In the words of the program."""
+        table = pathlib.Path(__file__).resolve().parents[2] / "front" / "src" / "advice.rs"
+        if not table.exists():
+            self.skipTest("the sources of the program aren't there")
+        for names in (b"A and", b"and A", b"A and and B"):
+            (what,) = [it.text for it in found_in(b"@misc{k, author = {%s}}" % names) if it.check == "stray-and"]
+            self.assertIn(f'"{what}"', table.read_text())
+
+    def test_an_empty_citation(self):
+        self.assertEqual(remedy_of('I didn\'t find a database entry for ""', ["k"]), "write a key in the empty `\\cite{}`, or take it out")
 
     def test_the_words_are_those_of_the_program(self):
         table = pathlib.Path(__file__).resolve().parents[2] / "front" / "src" / "advice.rs"

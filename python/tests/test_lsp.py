@@ -300,6 +300,38 @@ class Documents(WithEditor):
         self.editor.tell("textDocument/didSave", textDocument={"uri": self.editor.uri("paper.tex")})
         self.assertEqual(len(self.editor.diagnostics("paper.tex")), 1)
 
+    def test_a_rename_follows_the_files_that_are_read(self):
+        """In comments and in verbatim text the key stays."""
+        folder = self.editor.folder
+        for name in ("parts", "others"):
+            (folder / name).mkdir()
+        (folder / "paper.tex").write_text(PAPER + "\\input{parts/one} % \\input{others/no}\n")
+        one = "\\cite{kay} % \\cite{kay}\n\\begin{verbatim}\\cite{kay}\\end{verbatim}\n"
+        for name, text in (("parts/one", one + "\\include{parts/two}\n"), ("parts/two", "\\citep{KAY}\n"), ("others/no", one)):
+            (folder / f"{name}.tex").write_text(text)
+        self.editor.open("d.bib", BASE)
+        self.editor.open("parts/one.tex", one + "\\include{parts/two}\n")
+        for where in (self.editor.at("d.bib", *spot(BASE, "kay")), self.editor.at("parts/one.tex", *spot(one, "kay"))):
+            changes = self.editor.result("textDocument/rename", **where, newName="new")["changes"]
+            self.assertEqual({uri[len(folder.as_uri()) + 1 :]: len(edits) for uri, edits in changes.items()}, {"d.bib": 1, "paper.tex": 1, "parts/one.tex": 1, "parts/two.tex": 1})
+
+    def test_files_that_another_program_changes(self):
+        self.assertEqual(len(self.said("paper.tex", PAPER)), 1)
+        (self.editor.folder / "d.bib").write_text(BASE + "@misc{bok1}\n")
+        self.editor.tell("workspace/didChangeWatchedFiles", changes=[{"uri": self.editor.uri("d.bib"), "type": 2}])
+        self.assertEqual(self.editor.diagnostics("paper.tex"), [])
+
+    def test_a_client_that_can_is_asked_to_watch_files(self):
+        """It was asked nothing as long as it didn't say that it can."""
+        self.assertEqual(self.editor.notices, [])
+        self.editor.result("initialize", capabilities={"workspace": {"didChangeWatchedFiles": {"dynamicRegistration": True}}})
+        self.editor.tell("initialized")
+        asked = self.editor.take()
+        self.assertEqual(asked["method"], "client/registerCapability")
+        self.assertEqual([it["registerOptions"]["watchers"] for it in asked["params"]["registrations"]], [[{"globPattern": "**/*.{bib,bst,aux}"}]])
+        self.editor.send(id=asked["id"], result=None)
+        self.assertEqual(len(self.said("paper.tex", PAPER)), 1)
+
 
 class Hostile(WithEditor):
     def test_two_hundred_changes_give_one_answer_for_the_last_text(self):
@@ -352,6 +384,14 @@ class Hostile(WithEditor):
         self.assertEqual(answers, [[], None, [], [], None])
         self.assertEqual(self.said("paper.tex", PAPER.replace("{d}", "{d,big}")), [("bok1", "no-entry", 2)])
         self.assertLess(time.monotonic() - begin, 120)
+
+    def test_a_document_without_a_name_is_refused(self):
+        """It isn't kept, so that the requests about others are answered."""
+        self.editor.open("good.bib", "@misc{k, note = {A}}\n")
+        for uri, text in ((5, "x"), (None, "x"), ("file:///a.bib", 5)):
+            self.editor.tell("textDocument/didOpen", textDocument={"uri": uri, "languageId": "bibtex", "version": 1, "text": text})
+        self.assertTrue(self.editor.result("textDocument/documentSymbol", textDocument={"uri": self.editor.uri("good.bib")}))
+        self.assertIsNone(self.editor.result("textDocument/hover", **self.editor.at("good.bib", 0, 20)))
 
     def test_what_nobody_should_send(self):
         where = self.editor.at("d.bib", 0, 0)

@@ -84,7 +84,12 @@ MENDED = [
     ("@misc{a,\n note = {We set\n n = 5 and so},\n title = {T}\n year = 1}", "@misc{a,\n note = {We set\n n = 5 and so},\n title = {T},\n year = 1}"),
 ]
 # Those of which nothing is suggested.
-LEFT = ["@{a, x = 1}", "@misc{a, x", "@misc{a, x =", "@misc", "@misc{", "@misc{a, x = #, y = 1}", "@misc a, x = 1}", "@misc{a, 1x = 1}"]
+LEFT = [
+    # (without its brace the value would take in all that follows, to the end of the file)
+    "@book{a,\n author={A}X,\n title={T},\n note={N}}\n",
+    "@book{a, author = {S}, journal = {J}, note = {a} foo, month = \"Sept.\"}\n",
+    *("@{a, x = 1}", "@misc{a, x", "@misc{a, x =", "@misc", "@misc{", "@misc{a, x = #, y = 1}", "@misc a, x = 1}", "@misc{a, 1x = 1}"),
+]
 
 STYLE = """ENTRY {author journal title year month} {} {}
 MACRO {sep} {"September"}

@@ -7,7 +7,7 @@ from unittest import mock
 
 import btx
 from btx import NameParts
-from btx.names import MOST_FIELDS, divided
+from btx.dividing import MOST_FIELDS, divided
 
 ROWS = [
     ("", []),
