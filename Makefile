@@ -97,9 +97,11 @@ install-documents:
 	find examples -type f ! -name '*.pyc' ! -path examples/first/run | LC_ALL=C sort | while IFS= read -r file; do install -D -m 644 "$$file" '$(doc)'/"$$file" || exit 1; done
 
 # Python's package lies beside the program's folder, where bibtex-lint looks for it; a line in a folder of Python's own makes `python3 -m btx` find it, too.
+# Its modules are compiled once, where it isn't for a package: whoever starts it may not write there, and would wait for that each time.
 install-python:
 	install -d '$(shared)/python/btx'
 	install -m 644 python/btx/*.py python/btx/py.typed '$(shared)/python/btx'
+	$(if $(DESTDIR),,test ! -x /usr/bin/python3 || /usr/bin/python3 -m compileall -q '$(shared)/python/btx')
 	$(if $(wildcard library/out/libbtx.so.1),ln -sf ../../../../lib/libbtx.so.1 '$(shared)/python/btx/libbtx.so.1')
 	$(if $(python),install -d '$(DESTDIR)$(python)' && echo '$(PREFIX)/share/bibtex-proved/python' >'$(DESTDIR)$(python)/bibtex-proved.pth')
 
