@@ -11,6 +11,7 @@ ghost use Rattle.btx_machine.specs.laws.Reports.{log_counts};
 ghost use Rattle.btx_machine.specs.refinement.Counting.{CountsNoted};
 ghost use Rattle.btx_machine.specs.refinement.Met.{AddsMet, met};
 ghost use Rattle.btx_machine.specs.refinement.Outputs.{with_item};
+ghost use Rattle.btx_machine.specs.refinement.Places.{EndsWithLast, Hands, MetLast, shown};
 ghost use Rattle.btx_machine.specs.refinement.Wholeness.{WholeUnlessCutOff};
 
 use crate::counted_since::CountedSince;
@@ -130,6 +131,8 @@ impl<'s, L: LogSink> Journal<'s, L> {
         ensures err { OnErr result (AppendsPrefix self.old.sink.received self.new.sink.received (ended_line (last_line report))) }
         ensures warnings { self.new.warnings ≡ self.old.warnings }
         ensures errors { self.new.errors ≡ self.old.errors }
+        ensures met { Hands (shown self.old) (shown self.new) (MetLast report) }
+        ensures last { IfOk result (EndsWithLast (shown self.old) (shown self.new)) }
         ensures sink { self.new.sink.name ≡ self.old.sink.name }
         ensures joined { self.new.joined ≡ self.old.joined }
         ensures whole { WholeUnlessCutOff result self.old.wholeness self.new.wholeness }

@@ -10,6 +10,7 @@ ghost use Rattle.btx_machine.specs.language.Saying.{ended_line};
 ghost use Rattle.btx_machine.specs.laws.Reports.{log_counts};
 ghost use Rattle.btx_machine.specs.refinement.Counting.{CountsNoted};
 ghost use Rattle.btx_machine.specs.refinement.Outputs.{HasCounts};
+ghost use Rattle.btx_machine.specs.refinement.Places.{EndsWithLast, Hands, MetLast, showing, shown};
 ghost use Rattle.btx_machine.specs.refinement.Wholeness.{WholeUnlessCutOff};
 ghost use Rattle.btx_machine.specs.declared.report.LogCounts.{LogCounts};
 
@@ -49,6 +50,8 @@ pub fn log_end<L: LogSink>(alloc: Global, report: Report, log: &mut L) -> Result
     ensures counts { CountsOfOne result (L.failures log.old, L.failures log.new) }
     ensures joined { L.joined log.new ≡ L.joined log.old }
     ensures counted { (counts : LogCounts) → CountsNoted (L.noted log.old, L.noted log.new) counts counts }
+    ensures met { Hands (showing (L.noted log.old) (L.handed log.old)) (showing (L.noted log.new) (L.handed log.new)) (MetLast report) }
+    ensures last { IfOk result (EndsWithLast (showing (L.noted log.old) (L.handed log.old)) (showing (L.noted log.new) (L.handed log.new))) }
     ensures whole { WholeUnlessCutOff result (L.wholeness log.old) (L.wholeness log.new) }
 {
     let text = last_line(alloc, &report)?;
@@ -82,6 +85,9 @@ pub fn conclude<W: Sink, L: LogSink>(
     ensures ok { OnOk result (Closes work.old end steps work.new.outputs) }
     ensures err { OnErr result (ClosesPart work.old end steps work.new.outputs) }
     ensures counted { HasCounts result work.new.outputs.log }
+    ensures met { Hands (shown work.old.outputs.log) (shown work.new.outputs.log)
+        (MetLast (report_of (end_as end) steps work.old.store.deepest (log_counts work.old.outputs.log.warnings work.old.outputs.log.errors))) }
+    ensures last { IfOk result (EndsWithLast (shown work.old.outputs.log) (shown work.new.outputs.log)) }
     ensures counts { CountsOfBoth result work.old.outputs work.new.outputs }
 {
     finish(&mut work.outputs, end)?;

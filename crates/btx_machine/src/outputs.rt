@@ -8,7 +8,7 @@ ghost use Rattle.btx_machine.specs.language.Reports.{last_line};
 ghost use Rattle.btx_machine.specs.language.Saying.{ended_line, lines_logged, said_on};
 ghost use Rattle.btx_machine.specs.laws.Noting.{AddsLines};
 ghost use Rattle.btx_machine.specs.refinement.Met.{AddsMet, met};
-ghost use Rattle.btx_machine.specs.refinement.Places.{HandsInItem, MetOfMessages, MetWhile, lines_said};
+ghost use Rattle.btx_machine.specs.refinement.Places.{EndsWithLast, Hands, HandsInItem, MetLast, MetOfMessages, MetWhile, lines_said, shown};
 ghost use Rattle.btx_machine.specs.refinement.Saying.{current_key, wrote, pending_ended, line_logged, note_lines};
 
 use crate::journal::Journal;
@@ -81,6 +81,7 @@ impl<'s, W: Sink, L: LogSink> Outputs<'s, W, L> {
         ensures log_failures { L.failures result.1.now ≡ self.entry.log.sink.failures }
         ensures log_joined { L.joined result.1.now ≡ self.entry.log.joined.log }
         ensures log_noted { L.noted result.1.now ≡ self.entry.log.noted }
+        ensures log_handed { L.handed result.1.now ≡ self.entry.log.handed }
         ensures counted { CountsNoted (self.entry.log.joined.since.noted, self.entry.log.noted) self.entry.log.joined.since.counts
             (log_counts self.entry.log.warnings self.entry.log.errors) }
         ensures log_whole { L.wholeness result.1.now ≡ self.entry.log.wholeness }
@@ -239,6 +240,8 @@ impl<'s, W: Sink, L: LogSink> Outputs<'s, W, L> {
         ensures bbl { self.new.bbl ≡ self.old.bbl }
         ensures warnings { self.new.log.warnings ≡ self.old.log.warnings }
         ensures errors { self.new.log.errors ≡ self.old.log.errors }
+        ensures met { Hands (shown self.old.log) (shown self.new.log) (MetLast report) }
+        ensures last { IfOk result (EndsWithLast (shown self.old.log) (shown self.new.log)) }
         ensures counts { CountsOfBoth result self.old self.new }
     {
         self.log.end(alloc, report)

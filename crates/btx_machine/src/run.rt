@@ -11,6 +11,7 @@ ghost use Rattle.btx_machine.specs.refinement.Written.{received};
 ghost use Rattle.btx_machine.specs.laws.Reports.{log_counts};
 ghost use Rattle.btx_machine.specs.refinement.Counting.{ReportCounts};
 ghost use Rattle.btx_machine.specs.refinement.Outputs.{HasCounts};
+ghost use Rattle.btx_machine.specs.refinement.Places.{EndsWithLast, MeetsInStyle, showing, shown};
 ghost use Rattle.btx_machine.specs.refinement.Wholeness.{WholeUnlessCutOff};
 
 use crate::items::do_items;
@@ -44,6 +45,8 @@ pub fn execute_style<'a, W: Sink, L: LogSink>(
     ensures counts { CountsOfTwo result (W.failures bbl.old, W.failures bbl.new) (L.failures log.old, L.failures log.new) }
     ensures joined { L.joined log.new ≡ L.joined log.old }
     ensures counted { ReportCounts result (L.noted log.old, L.noted log.new) counts }
+    ensures met { MeetsInStyle job.now counts line budget result (showing (L.noted log.old) (L.handed log.old)) (showing (L.noted log.new) (L.handed log.new)) }
+    ensures last { IfOk result (EndsWithLast (showing (L.noted log.old) (L.handed log.old)) (showing (L.noted log.new) (L.handed log.new))) }
     ensures whole { WholeUnlessCutOff result (L.wholeness log.old) (L.wholeness log.new) }
 {
     let store = Store::new(alloc, job)?;
@@ -75,6 +78,9 @@ fn do_all<'a, W: Sink, L: LogSink>(
     ensures err { OnErr result (AtFault (received work.old.outputs) (received work.new.outputs)
         (style_product job.now (log_counts work.old.outputs.log.warnings work.old.outputs.log.errors) work.old.outputs.breaker.line_length) budget) }
     ensures counted { HasCounts result work.new.outputs.log }
+    ensures met { MeetsInStyle job.now (log_counts work.old.outputs.log.warnings work.old.outputs.log.errors) work.old.outputs.breaker.line_length budget result
+        (shown work.old.outputs.log) (shown work.new.outputs.log) }
+    ensures last { IfOk result (EndsWithLast (shown work.old.outputs.log) (shown work.new.outputs.log)) }
     ensures counts { CountsOfBoth result work.old.outputs work.new.outputs }
 {
     let mut left = budget;
