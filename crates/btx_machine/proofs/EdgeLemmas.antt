@@ -16,3 +16,7 @@ pair_is a a' b b' e f = ap (λ x. pair x b) e ∙ ap (pair a') f
 pub of_equals : {A B C D : Type 0} (P : A → B → C → D → Type 0) (a a' : A) (b b' : B) (c c' : C) (d d' : D) → a ≡ a' → b ≡ b' → c ≡ c' → d ≡ d' → P a b c d
     → P a' b' c' d'
 of_equals P a a' b b' c c' d d' e f g h p = subst (λ x. P x b' c' d') e (subst (λ x. P a x c' d') f (subst (λ x. P a b x d') g (subst (λ x. P a b c x) h p)))
+
+-- and what holds of two
+pub of_both : {A B : Type 0} (P : A → B → Type 0) (a a' : A) (b b' : B) → a ≡ a' → b ≡ b' → P a b → P a' b'
+of_both P a a' b b' e f p = subst (λ x. P x b') e (subst (P a) f p)

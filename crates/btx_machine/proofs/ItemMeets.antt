@@ -84,28 +84,30 @@ midway_begun {old} {mid} {begun} {opens} {first} {left} {claim} number is h =
 
 -- ---- one item after others
 
+-- within more steps
+pub met_within : (job : Job) (items : List Item) (k all : ℕ) (s : State) (m : Met) → k ≤ all → MetInItems job items k s m → MetInItems job items all s m
+met_within job items k all s m le w = record {
+  number = w.number;
+  here = w.here;
+  others = w.others;
+  is_next = w.is_next;
+  list = w.list;
+  taken = w.taken;
+  further = w.further;
+  within = omega (arith, w.within, le);
+  there = w.there;
+  same = w.same;
+  code = w.code;
+  is_code = w.is_code;
+  met = w.met;
+  is_numbered = w.is_numbered;
+}
+
 module _ (job : Job) (items : List Item) (k all : ℕ) (old mid : Work) where
   with_more : k ≤ all → (m : Met)
       → ((start : Start) (out : Out) → StandsFor start old.outputs out → MetInItems job items k (state old.store out) m)
       → (start : Start) (out : Out) → StandsFor start old.outputs out → MetInItems job items all (state old.store out) m
-  with_more le m h start out stands =
-      let w = h start out stands in
-      record {
-        number = w.number;
-        here = w.here;
-        others = w.others;
-        is_next = w.is_next;
-        list = w.list;
-        taken = w.taken;
-        further = w.further;
-        within = omega (arith, w.within, le);
-        there = w.there;
-        same = w.same;
-        code = w.code;
-        is_code = w.is_code;
-        met = w.met;
-        is_numbered = w.is_numbered;
-      }
+  with_more le m h start out stands = met_within job items k all (state old.store out) m le (h start out stands)
 
   module _ (code : Coded) (is_code : bodies_of code ≡ job.style.bodies) (number : ℕ) (x : Item) (rest others : List Item) (list : List ℕ) (most : ℕ)
       (is_next : drop number items ≡ x ∷ others) (is : rest ≡ x ∷ others) (le : k + most ≤ all)

@@ -49,4 +49,5 @@ pub mod HandLemmas
 pub mod MeetLemmas
 pub mod VisitMeets
 pub mod ItemMeets
+pub mod StyleMeets
 pub mod CountingLemmas

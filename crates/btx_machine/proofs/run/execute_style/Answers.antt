@@ -3,10 +3,13 @@ use Rattle.btx_machine.proofs.Common.{Journal, style_product, log_counts}
 use Rattle.btx_out.specs.refinement.Breakers.{Held}
 use Rattle.btx_machine.specs.refinement.Faults.{CountsOfTwo}
 use Rattle.btx_machine.specs.language.KeepingStep.{AtFault, Completes}
+use Rattle.btx_machine.specs.refinement.Places.{EndsWithLast, MeetsInStyle, showing, shown}
 use Rattle.btx_machine.proofs.ComesLemmas.{ok_map, on_err}
 use Rattle.btx_machine.proofs.CountingLemmas.{counts_reported, counts_since}
-use Rattle.btx_machine.proofs.EdgeLemmas.{ends_as, of_equals, pair_is}
+use Rattle.btx_machine.proofs.EdgeLemmas.{ends_as, of_both, of_equals, pair_is}
+use Rattle.btx_machine.proofs.HandLemmas.{handed_none}
 use Rattle.btx_machine.proofs.RunLemmas.{nothing_written}
+use Rattle.btx_machine.proofs.StyleMeets.{showing_is}
 use Rattle.btx_machine.proofs.run.execute_style.Goals as goal
 
 pub returns-in_err-store-clause-err : goal.returns-in_err-store-clause-err
@@ -64,3 +67,32 @@ returns-clause-counted g c =
     ∙ c.do_all-result.ensures.counts.0.1 ∙ ap (λ (log : Journal). log.sink.name) c.new-outputs.ensures.log ∙ c.new-2.ensures.name)
     c.into_sinks-list.ensures.log_noted (search rules)) c.into_sinks-list.ensures.counted in
     ok_map (λ report is. counts_reported _ c.args.counts _ _ _ _ is.0 is.1 counted) c.do_all-result.result c.do_all-result.ensures.counted
+
+pub returns-in_err-store-clause-met : goal.returns-in_err-store-clause-met
+returns-in_err-store-clause-met g c = handed_none (showing (g.L.LogSink.noted c.args.log.now) (g.L.LogSink.handed c.args.log.now))
+
+pub returns-clause-met : goal.returns-clause-met
+returns-clause-met g c =
+    let log = c.do_all-result.new.work.outputs.log in
+    let name = c.into_sinks-list.ensures.log_name ∙ c.do_all-result.ensures.counts.0.1 ∙ ap (λ (log : Journal). log.sink.name) c.new-outputs.ensures.log
+    ∙ c.new-2.ensures.name in
+    of_equals (λ old new counts line_length. MeetsInStyle c.args.job.now counts line_length c.args.budget c.do_all-result.result old new) _ _ _ _ _ _ _ _
+    (ap shown c.new-outputs.ensures.log ∙ showing_is _ _ _ _ c.new-2.ensures.noted c.new-2.ensures.handed)
+    (showing_is _ _ _ _
+    (ends_as g.L.LogSink.noted _ c.into_sinks-list.result.1 _ log.noted name c.into_sinks-list.ensures.log_noted (search rules))
+    (ends_as g.L.LogSink.handed _ c.into_sinks-list.result.1 _ log.handed name c.into_sinks-list.ensures.log_handed (search rules)))
+    (ap (λ (log : Journal). log_counts log.warnings log.errors) c.new-outputs.ensures.log
+    ∙ ap (λ n. log_counts n c.new-2.result.errors) c.new-2.ensures.warnings ∙ ap (log_counts c.args.counts.warnings) c.new-2.ensures.errors)
+    (ap (λ (held : Held). held.line_length) c.new-outputs.ensures.breaker) c.do_all-result.ensures.met
+
+pub returns-clause-last : goal.returns-clause-last
+returns-clause-last g c =
+    let log = c.do_all-result.new.work.outputs.log in
+    let name = c.into_sinks-list.ensures.log_name ∙ c.do_all-result.ensures.counts.0.1 ∙ ap (λ (log : Journal). log.sink.name) c.new-outputs.ensures.log
+    ∙ c.new-2.ensures.name in
+    of_both (λ old new. IfOk c.do_all-result.result (EndsWithLast old new)) _ _ _ _
+    (ap shown c.new-outputs.ensures.log ∙ showing_is _ _ _ _ c.new-2.ensures.noted c.new-2.ensures.handed)
+    (showing_is _ _ _ _
+    (ends_as g.L.LogSink.noted _ c.into_sinks-list.result.1 _ log.noted name c.into_sinks-list.ensures.log_noted (search rules))
+    (ends_as g.L.LogSink.handed _ c.into_sinks-list.result.1 _ log.handed name c.into_sinks-list.ensures.log_handed (search rules)))
+    c.do_all-result.ensures.last
