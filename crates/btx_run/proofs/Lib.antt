@@ -10,3 +10,4 @@ pub mod StepsLemmas
 pub mod KindLemmas
 pub mod DirectLemmas
 pub mod WrittenLemmas
+pub mod MetLemmas
