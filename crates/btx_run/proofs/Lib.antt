@@ -11,3 +11,4 @@ pub mod KindLemmas
 pub mod DirectLemmas
 pub mod WrittenLemmas
 pub mod MetLemmas
+pub mod MetRuns
