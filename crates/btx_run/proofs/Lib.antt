@@ -12,3 +12,4 @@ pub mod DirectLemmas
 pub mod WrittenLemmas
 pub mod MetLemmas
 pub mod MetRuns
+pub mod OriginLemmas
