@@ -10,3 +10,6 @@ pub mod StepsLemmas
 pub mod KindLemmas
 pub mod DirectLemmas
 pub mod WrittenLemmas
+pub mod MetLemmas
+pub mod MetRuns
+pub mod OriginLemmas

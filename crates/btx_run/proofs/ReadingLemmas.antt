@@ -109,7 +109,7 @@ pub no_database : (files : Files) (found : List NamedFile) (a : LogCounts) (x : 
     → IsRead found (a, a) (x, x) (databases_read files [])
 no_database files found a x none = subst (λ (found : List NamedFile). IsRead found (a, a) (x, x) (logged [] [])) (sym none) (reads_at_once [] a x)
 
-databases_logged-append : (files : Files) (earlier xs ys : List (List ℕ))
+pub databases_logged-append : (files : Files) (earlier xs ys : List (List ℕ))
     → databases_logged files earlier (xs ++ ys) ≡ databases_logged files earlier xs ++ databases_logged files (earlier ++ xs) ys
 databases_logged-append files earlier [] ys = ap (λ l. databases_logged files l ys) (sym (append-nil earlier))
 databases_logged-append files earlier (x ∷ xs) ys =
@@ -123,7 +123,7 @@ pub names_more : (names : List Bytes) (i : ℕ) (name : Bytes) → i < length na
 names_more names i name lt is =
     ap texts_of (take_more names i name lt ∙ ap (λ x. take i names ++ x ∷ []) (sym is)) ∙ map-append (λ (name : Bytes). name.items) (take i names) (name ∷ [])
 
-logged_more : (files : Files) (names : List Bytes) (i : ℕ) (name : Bytes) → i < length names → name ≡ get_or names i name
+pub logged_more : (files : Files) (names : List Bytes) (i : ℕ) (name : Bytes) → i < length names → name ≡ get_or names i name
     → databases_logged files [] (texts_of (take (i + 1) names))
     ≡ databases_logged files [] (texts_of (take i names)) ++ database_logged (length (files_found files (texts_of (take i names))) + 1) name.items
     (file_at files name.items) ∷ []

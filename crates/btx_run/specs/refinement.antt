@@ -1,3 +1,4 @@
 pub mod Files
 pub mod Product
 pub mod Contents
+pub mod Places

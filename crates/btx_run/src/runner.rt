@@ -6,6 +6,7 @@ ghost use Rattle.btx_aux.specs.refinement.Answers.{ByAnswers};
 ghost use Rattle.btx_machine.specs.language.DirectDepth.{StaysWithin};
 ghost use Rattle.btx_machine.specs.refinement.Faults.{CountsOfTwo};
 ghost use Rattle.btx_machine.specs.refinement.Counting.{ReportCounts};
+ghost use Rattle.btx_machine.specs.refinement.Places.{EndsWithLast, Hands, MeetsInStyle, most_steps, showing};
 ghost use Rattle.btx_machine.specs.refinement.Wholeness.{WholeUnlessCutOff};
 ghost use Rattle.btx_machine.specs.language.KeepingStep.{AtFault, Completes};
 ghost use Rattle.btx_machine.specs.laws.Noting.{Printed, PrintedOrBrokenOff};
@@ -22,6 +23,7 @@ ghost use Rattle.btx_core.specs.refinement.Files.Readings.{reading_of};
 ghost use Rattle.btx_run.specs.refinement.Files.Readings.{StyleFits, files_read};
 ghost use Rattle.btx_core.specs.refinement.ComputedProduct.{product, product_of_files, product_with};
 ghost use Rattle.btx_run.specs.language.RunFaults.{CountsOfRun};
+ghost use Rattle.btx_run.specs.refinement.Places.{MetAfterFiles, MetAsAnswered, MetInReading, MetInRun};
 ghost use Rattle.btx_run.specs.refinement.Product.{work_of, work_in, product_of_reading};
 
 use crate::contents::read_library;
@@ -59,6 +61,9 @@ fn execute<'a, W: Sink, L: LogSink>(
     ensures joined { L.joined log.new ≡ L.joined log.old }
     ensures whole { WholeUnlessCutOff result (L.wholeness log.old) (L.wholeness log.new) }
     ensures counted { ReportCounts result (L.noted log.old, L.noted log.new) counts }
+    ensures met { MeetsInStyle (work_of style.now library.now options.now) counts options.now.line options.now.budget result
+        (showing (L.noted log.old) (L.handed log.old)) (showing (L.noted log.new) (L.handed log.new)) }
+    ensures last { IfOk result (EndsWithLast (showing (L.noted log.old) (L.handed log.old)) (showing (L.noted log.new) (L.handed log.new))) }
 {
     let job = Job::new(
         style,
@@ -90,6 +95,9 @@ fn execute_found<'a, W: Sink, L: LogSink>(
     ensures joined { L.joined log.new ≡ L.joined log.old }
     ensures whole { WholeUnlessCutOff result (L.wholeness log.old) (L.wholeness log.new) }
     ensures counted { ReportCounts result (L.noted log.old, L.noted log.new) counts }
+    ensures met { MeetsInStyle (work_in job.now found.now options.now) counts options.now.line options.now.budget result
+        (showing (L.noted log.old) (L.handed log.old)) (showing (L.noted log.new) (L.handed log.new)) }
+    ensures last { IfOk result (EndsWithLast (showing (L.noted log.old) (L.handed log.old)) (showing (L.noted log.new) (L.handed log.new))) }
 {
     let style = read_style(alloc, found.style.name(), found.style.bytes())?;
     let library = read_library(alloc, &style, job, &found.databases, options.min_crossrefs)?;
@@ -118,6 +126,9 @@ fn after_files<'a, W: Sink, L: LogSink>(
     ensures joined { L.joined log.new ≡ L.joined log.old }
     ensures whole { WholeUnlessCutOff result (L.wholeness log.old) (L.wholeness log.new) }
     ensures counted { ReportCounts result (L.noted log.old, L.noted log.new) counts }
+    ensures met { Hands (showing (L.noted log.old) (L.handed log.old)) (showing (L.noted log.new) (L.handed log.new))
+        (MetAfterFiles job.now read.entry options.now counts (most_steps result options.now.budget)) }
+    ensures last { IfOk result (EndsWithLast (showing (L.noted log.old) (L.handed log.old)) (showing (L.noted log.new) (L.handed log.new))) }
 {
     match read {
         FilesRead::Ends(end) => log_end(alloc, report_of(end, 0, 0, counts), log),
@@ -150,6 +161,12 @@ fn run_job<F: Finder, W: Sink, L: LogSink>(
     ensures joined { L.joined log.new ≡ L.joined log.old }
     ensures whole { WholeUnlessCutOff result (L.wholeness log.old) (L.wholeness log.new) }
     ensures counted { ReportCounts result (L.noted log.old, L.noted log.new) (log_counts 0 0) }
+    ensures met { ByAnswers (F.content finder.old) (F.answers finder.old) (F.answers finder.new) (λ asked. AreAmong asked (names_in job.now)) (λ files.
+        Hands (showing (L.noted log.old) (L.handed log.old)) (showing (L.noted log.new) (L.handed log.new))
+        (MetInReading job.now (files_read files job.now) options.now (most_steps result options.now.budget))) }
+    ensures last { IfOk result (λ report. ByAnswers (F.content finder.old) (F.answers finder.old) (F.answers finder.new)
+        (λ asked. AreAmong asked (names_in job.now)) (λ files.
+        EndsWithLast (showing (L.noted log.old) (L.handed log.old)) (showing (L.noted log.new) (L.handed log.new)) report)) }
     ensures stays { F.content finder.new ≡ F.content finder.old }
 {
     let mut journal = Journal::new(log, LogCounts::NONE);
@@ -185,6 +202,12 @@ fn run_named<F: Finder, W: Sink, L: LogSink>(
     ensures joined { L.joined log.new ≡ L.joined log.old }
     ensures whole { WholeUnlessCutOff result (L.wholeness log.old) (L.wholeness log.new) }
     ensures counted { ReportCounts result (L.noted log.old, L.noted log.new) (log_counts 0 0) }
+    ensures met { IfSome (F.content finder.old) (λ files.
+        Hands (showing (L.noted log.old) (L.handed log.old)) (showing (L.noted log.new) (L.handed log.new))
+        (MetInRun files name.now options.now (most_steps result options.now.budget))) }
+    ensures met_as_answered { MetAsAnswered name.now options.now (F.answers finder.old, F.answers finder.new)
+        (showing (L.noted log.old) (L.handed log.old)) (showing (L.noted log.new) (L.handed log.new)) (most_steps result options.now.budget) }
+    ensures last { IfOk result (EndsWithLast (showing (L.noted log.old) (L.handed log.old)) (showing (L.noted log.new) (L.handed log.new))) }
     ensures stays { F.content finder.new ≡ F.content finder.old }
 {
     let job = read_job(alloc, finder, name)?;
@@ -220,6 +243,12 @@ fn run_noting<F: Finder, W: Sink, L: Sink, N: Notebook>(
     ensures noted_without_memory { IfErr result (λ fault. fault ≡ Fault.Memory → Printed (N.noted notebook.old, N.noted notebook.new)
         (L.received log.old, L.received log.new)) }
     ensures counted { ReportCounts result (N.noted notebook.old, N.noted notebook.new) (log_counts 0 0) }
+    ensures met { IfSome (F.content finder.old) (λ files.
+        Hands (showing (N.noted notebook.old) (N.handed notebook.old)) (showing (N.noted notebook.new) (N.handed notebook.new))
+        (MetInRun files name.now options.now (most_steps result options.now.budget))) }
+    ensures met_as_answered { MetAsAnswered name.now options.now (F.answers finder.old, F.answers finder.new)
+        (showing (N.noted notebook.old) (N.handed notebook.old)) (showing (N.noted notebook.new) (N.handed notebook.new)) (most_steps result options.now.budget) }
+    ensures last { IfOk result (EndsWithLast (showing (N.noted notebook.old) (N.handed notebook.old)) (showing (N.noted notebook.new) (N.handed notebook.new))) }
     ensures stays { F.content finder.new ≡ F.content finder.old }
 {
     let mut noted = NotedLog::new(log, notebook);
@@ -310,6 +339,15 @@ pub fn run_noted<F: Finder, W: Sink, L: Sink, N: Notebook>(
         (L.received log.old, L.received log.new)) }
     // The warnings and the errors that the report counts are those among the lines that were noted.
     ensures counted { IfOk result (λ report. CountsOfNoted (N.noted notebook.old, N.noted notebook.new) report) }
+
+    // Where each line that was handed was met: in the job's files, while its style is executed and where it then stands, or at the end of the run. It is so of the run
+    // over the content that a finder shows, and for every finder over all files that agree with its answers. At Ok the last line was handed last.
+    ensures met { IfSome (F.content finder.old) (λ files.
+        Hands (showing (N.noted notebook.old) (N.handed notebook.old)) (showing (N.noted notebook.new) (N.handed notebook.new))
+        (MetInRun files name.now options.now (most_steps result options.now.budget))) }
+    ensures met_as_answered { MetAsAnswered name.now options.now (F.answers finder.old, F.answers finder.new)
+        (showing (N.noted notebook.old) (N.handed notebook.old)) (showing (N.noted notebook.new) (N.handed notebook.new)) (most_steps result options.now.budget) }
+    ensures last { IfOk result (EndsWithLast (showing (N.noted notebook.old) (N.handed notebook.old)) (showing (N.noted notebook.new) (N.handed notebook.new))) }
 
     // All that `run` promises.
     // What was written is the one thing that stands in the relation between the job and its product, for a finder that shows its content. After a fault both

@@ -4,3 +4,4 @@ pub mod Readings
 pub mod Asked
 pub mod Faults
 pub mod Names
+pub mod Places

@@ -5,6 +5,7 @@ ghost use Rattle.btx_aux.specs.refinement.Entries.{texts_of};
 ghost use Rattle.btx_run.specs.refinement.Files.Asked.{AreAmong};
 ghost use Rattle.btx_run.specs.refinement.Files.Counts.{counts_at};
 ghost use Rattle.btx_run.specs.refinement.Files.Faults.{CountsOfReading};
+ghost use Rattle.btx_run.specs.refinement.Files.Places.{HandsOf};
 ghost use Rattle.btx_run.specs.refinement.Files.Readings.{AddsAs, ReadsAs, database_read, database_logged, databases_read};
 
 use crate::files::fetching::fetch_file;
@@ -41,6 +42,8 @@ fn find_database<'a, F: Finder, L: LogSink>(
     ensures reads { ByAnswers (F.content finder.old) (F.answers finder.old) (F.answers finder.new) (λ names. AreAmong names (name.entry.now ∷ [])) (λ files.
         ReadsAs result (counts_at journal.old, counts_at journal.new) (journal.old.sink.received, journal.new.sink.received)
         (database_read files number name.entry.now)) }
+    ensures met { ByAnswers (F.content finder.old) (F.answers finder.old) (F.answers finder.new) (λ names. AreAmong names (name.entry.now ∷ [])) (λ files.
+        HandsOf journal.old journal.new (database_read files number name.entry.now).lines) }
     ensures stays { F.content finder.new ≡ F.content finder.old }
     ensures counts { CountsOfReading result (F.failures finder.old, F.failures finder.new) journal.old journal.new }
 {
@@ -61,6 +64,8 @@ fn add_database<'a, F: Finder, L: LogSink>(
     ensures adds { ByAnswers (F.content finder.old) (F.answers finder.old) (F.answers finder.new) (λ names. AreAmong names (name.entry.now ∷ [])) (λ files.
         AddsAs result found.old found.new (counts_at journal.old, counts_at journal.new) (journal.old.sink.received, journal.new.sink.received)
         (database_read files (length found.old + 1) name.entry.now)) }
+    ensures met { ByAnswers (F.content finder.old) (F.answers finder.old) (F.answers finder.new) (λ names. AreAmong names (name.entry.now ∷ [])) (λ files.
+        HandsOf journal.old journal.new (database_read files (length found.old + 1) name.entry.now).lines) }
     ensures stays { F.content finder.new ≡ F.content finder.old }
     ensures counts { CountsOfReading result (F.failures finder.old, F.failures finder.new) journal.old journal.new }
 {
@@ -82,6 +87,8 @@ pub fn find_databases<'a, F: Finder, L: LogSink>(
         (λ files.
         ReadsAs result (counts_at journal.old, counts_at journal.new) (journal.old.sink.received, journal.new.sink.received)
         (databases_read files (texts_of names.entry.now))) }
+    ensures met { ByAnswers (F.content finder.old) (F.answers finder.old) (F.answers finder.new) (λ asked. AreAmong asked (texts_of names.entry.now)) (λ files.
+        HandsOf journal.old journal.new (databases_read files (texts_of names.entry.now)).lines) }
     ensures stays { F.content finder.new ≡ F.content finder.old }
     ensures counts { CountsOfReading result (F.failures finder.old, F.failures finder.new) journal.old journal.new }
 {

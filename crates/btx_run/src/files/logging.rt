@@ -4,6 +4,7 @@ ghost use Rattle.btx_out.specs.language.Pieces.{AppendsPrefix};
 ghost use Rattle.btx_run.specs.refinement.Files.Counts.{counts_at};
 ghost use Rattle.btx_run.specs.refinement.Files.Faults.{CountsOfLogging};
 ghost use Rattle.btx_run.specs.refinement.Files.Logging.{Logs, bytes_of_lines};
+ghost use Rattle.btx_run.specs.refinement.Files.Places.{HandsOf};
 
 use btx_machine::{About, Journal, LogSink};
 use btx_text::{Fault, LogLine};
@@ -13,6 +14,7 @@ pub fn log_all<L: LogSink>(lines: &[LogLine], journal: &mut Journal<'_, L>) -> R
     ensures ok { OnOk result (Logs (counts_at journal.old, counts_at journal.new) (journal.old.sink.received, journal.new.sink.received) lines.now) }
     ensures err { OnErr result (AppendsPrefix journal.old.sink.received journal.new.sink.received (bytes_of_lines lines.now)) }
     ensures fault { IfErr result (λ fault. fault ≡ Fault.Device) }
+    ensures met { HandsOf journal.old journal.new lines.now }
     ensures counts { CountsOfLogging result journal.old journal.new }
 {
     for line in lines {

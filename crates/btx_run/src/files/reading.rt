@@ -9,6 +9,7 @@ ghost use Rattle.btx_run.specs.refinement.Files.Counts.{counts_at};
 ghost use Rattle.btx_run.specs.refinement.Files.Faults.{CountsOfReading, CountsOfLogging};
 ghost use Rattle.btx_core.specs.language.Files.Found.{file_at};
 ghost use Rattle.btx_core.specs.refinement.Files.Readings.{after_job, job_named, style_read};
+ghost use Rattle.btx_run.specs.refinement.Files.Places.{HandsOf};
 ghost use Rattle.btx_run.specs.refinement.Files.Readings.{ReadsAs, StyleFits, after_style, files_read};
 ghost use Rattle.btx_run.specs.refinement.Files.Names.{top_name};
 
@@ -47,6 +48,8 @@ fn with_style<'a, F: Finder, L: LogSink>(
     ensures reads { ByAnswers (F.content finder.old) (F.answers finder.old) (F.answers finder.new) (λ asked. AreAmong asked job.entry.now.databases) (λ files.
         ReadsAs result (counts_at journal.old, counts_at journal.new) (journal.old.sink.received, journal.new.sink.received)
         (after_style files job.entry.now style.entry)) }
+    ensures met { ByAnswers (F.content finder.old) (F.answers finder.old) (F.answers finder.new) (λ asked. AreAmong asked job.entry.now.databases) (λ files.
+        HandsOf journal.old journal.new (after_style files job.entry.now style.entry).lines) }
     ensures fits { IfOk result (λ read. StyleFits read) }
     ensures stays { F.content finder.new ≡ F.content finder.old }
     ensures counts { CountsOfReading result (F.failures finder.old, F.failures finder.new) journal.old journal.new }
@@ -69,6 +72,8 @@ fn log_style<'a, F: Finder, L: LogSink>(
     ensures reads { ByAnswers (F.content finder.old) (F.answers finder.old) (F.answers finder.new) (λ asked. AreAmong asked job.entry.now.databases) (λ files.
         ReadsAs result (counts_at journal.old, counts_at journal.new) (journal.old.sink.received, journal.new.sink.received)
         (style_read files job.entry.now style.entry.name (Some style.entry))) }
+    ensures met { ByAnswers (F.content finder.old) (F.answers finder.old) (F.answers finder.new) (λ asked. AreAmong asked job.entry.now.databases) (λ files.
+        HandsOf journal.old journal.new (style_read files job.entry.now style.entry.name (Some style.entry)).lines) }
     ensures fits { IfOk result (λ read. StyleFits read) }
     ensures stays { F.content finder.new ≡ F.content finder.old }
     ensures counts { CountsOfReading result (F.failures finder.old, F.failures finder.new) journal.old journal.new }
@@ -87,6 +92,7 @@ fn without_style<'a, L: LogSink>(
     ensures reads { (files : Files) (job : AuxJob) → ReadsAs result (counts_at journal.old, counts_at journal.new)
         (journal.old.sink.received, journal.new.sink.received)
         (style_read files job name.now None) }
+    ensures met { (files : Files) (job : AuxJob) → HandsOf journal.old journal.new (style_read files job name.now None).lines }
     ensures fits { IfOk result (λ read. StyleFits read) }
     ensures counts { CountsOfLogging result journal.old journal.new }
 {
@@ -107,6 +113,9 @@ fn find_style<'a, F: Finder, L: LogSink>(
         (λ asked. AreAmong asked (name.entry.now ∷ job.entry.now.databases)) (λ files.
         ReadsAs result (counts_at journal.old, counts_at journal.new) (journal.old.sink.received, journal.new.sink.received)
         (style_read files job.entry.now name.entry.now (file_at files name.entry.now))) }
+    ensures met { ByAnswers (F.content finder.old) (F.answers finder.old) (F.answers finder.new)
+        (λ asked. AreAmong asked (name.entry.now ∷ job.entry.now.databases)) (λ files.
+        HandsOf journal.old journal.new (style_read files job.entry.now name.entry.now (file_at files name.entry.now)).lines) }
     ensures fits { IfOk result (λ read. StyleFits read) }
     ensures stays { F.content finder.new ≡ F.content finder.old }
     ensures counts { CountsOfReading result (F.failures finder.old, F.failures finder.new) journal.old journal.new }
@@ -127,6 +136,8 @@ fn after_job<'a, F: Finder, L: LogSink>(
     ensures reads { ByAnswers (F.content finder.old) (F.answers finder.old) (F.answers finder.new) (λ asked. AreAmong asked (names_in job.entry.now)) (λ files.
         ReadsAs result (counts_at journal.old, counts_at journal.new) (journal.old.sink.received, journal.new.sink.received)
         (after_job files job.entry.now job.entry.now.ending)) }
+    ensures met { ByAnswers (F.content finder.old) (F.answers finder.old) (F.answers finder.new) (λ asked. AreAmong asked (names_in job.entry.now)) (λ files.
+        HandsOf journal.old journal.new (after_job files job.entry.now job.entry.now.ending).lines) }
     ensures fits { IfOk result (λ read. StyleFits read) }
     ensures stays { F.content finder.new ≡ F.content finder.old }
     ensures counts { CountsOfReading result (F.failures finder.old, F.failures finder.new) journal.old journal.new }
@@ -156,6 +167,8 @@ pub fn read_files<'a, F: Finder, L: LogSink>(
     ensures answered { ByAnswers (F.content finder.old) (F.answers finder.old) (F.answers finder.new) (λ asked. AreAmong asked (names_in job.entry.now))
         (λ files.
         ReadsAs result (counts_at journal.old, counts_at journal.new) (journal.old.sink.received, journal.new.sink.received) (files_read files job.entry.now)) }
+    ensures met { ByAnswers (F.content finder.old) (F.answers finder.old) (F.answers finder.new) (λ asked. AreAmong asked (names_in job.entry.now)) (λ files.
+        HandsOf journal.old journal.new (files_read files job.entry.now).lines) }
     ensures fits { IfOk result (λ read. StyleFits read) }
     ensures stays { F.content finder.new ≡ F.content finder.old }
     ensures counts { CountsOfReading result (F.failures finder.old, F.failures finder.new) journal.old journal.new }

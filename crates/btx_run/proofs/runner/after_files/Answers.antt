@@ -3,6 +3,8 @@ use Rattle.btx_machine.specs.declared.report.Report.{Report}
 use Rattle.btx_machine.proofs.ComesLemmas.{err_map, ok_map}
 use Rattle.btx_machine.proofs.CountingLemmas.{counts_reported}
 use Rattle.btx_run.proofs.ProductLemmas.{completes_early, counts_of_end, fails_early, never_deeper, touched_with_top_file}
+use Rattle.btx_machine.specs.refinement.Places.{most_steps}
+use Rattle.btx_run.proofs.MetRuns.{ends_met, found_met}
 use Rattle.btx_run.proofs.runner.after_files.Goals as goal
 use Rattle.btx_run.specs.refinement.Product.{work_in}
 
@@ -42,3 +44,12 @@ returns-in-Ends-clause-counted g c =
     ok_map (λ report same. counts_reported _ c.args.counts c.args.counts.warnings c.args.counts.errors report.warnings report.errors
     (ap (λ (report : Report). report.warnings) (same ∙ c.report_of.ensures)) (ap (λ (report : Report). report.errors) (same ∙ c.report_of.ensures))
     (c.log_end.ensures.counted c.args.counts)) c.log_end.result c.log_end.ensures.report
+
+pub returns-in-Ends-clause-met : goal.returns-in-Ends-clause-met
+returns-in-Ends-clause-met g c =
+    rw c.in-Ends.is (ends_met c.args.job.now c.in-Ends.end c.args.options.now c.args.counts (most_steps c.log_end.result c.args.options.now.budget)
+    c.report_of.result _ _ c.report_of.ensures c.log_end.ensures.met)
+
+pub returns-in-Found-clause-met : goal.returns-in-Found-clause-met
+returns-in-Found-clause-met g c =
+    rw c.in-Found.is (found_met c.args.job.now c.in-Found.found c.args.options.now c.args.counts c.execute_found.result _ _ c.execute_found.ensures.met)

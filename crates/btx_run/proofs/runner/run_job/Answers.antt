@@ -1,5 +1,6 @@
-use Rattle.std.proofs.Common.{rules, sym, ◌∙◌, subst}
+use Rattle.std.proofs.Common.{refl, rules, sym, ◌∙◌, subst}
 use Rattle.btx_aux.proofs.AnswerLemmas.{by_map}
+use Rattle.btx_machine.specs.refinement.Places.{most_steps, showing, shown}
 use Rattle.btx_machine.specs.language.KeepingStep.{AtFault, Completes}
 use Rattle.btx_machine.proofs.ComesLemmas.{err_map, ok_map, on_err}
 use Rattle.btx_machine.proofs.CountingLemmas.{counts_both, counts_since}
@@ -11,6 +12,9 @@ use Rattle.btx_core.specs.refinement.ComputedProduct.{product_of_files}
 use Rattle.btx_run.specs.refinement.Files.Counts.{counts_at}
 use Rattle.btx_run.specs.refinement.Files.Readings.{files_read}
 use Rattle.btx_run.proofs.ProductLemmas.{behind_ends, completes_reading, counts_are, counts_of_none, fails_in_lines, fails_reading}
+use Rattle.btx_machine.proofs.StyleMeets.{last_behind}
+use Rattle.btx_run.proofs.MetLemmas.{by_with}
+use Rattle.btx_run.proofs.MetRuns.{hands_between, last_between, reading_begun, reading_met}
 use Rattle.btx_run.proofs.runner.run_job.Goals as goal
 use Rattle.btx_run.specs.refinement.Product.{product_of_reading}
 
@@ -80,3 +84,34 @@ returns-clause-counted g c =
     let before = subst (CountsNoted (noted c.args.log.now, noted c.into_sink-log.result.now) none) (sym is_given) files in
     ok_map (λ report counted. subst (λ last. CountsNoted (noted c.args.log.now, last) none (log_counts report.warnings report.errors)) (search rules)
     (counts_both _ _ (noted c.after_files.new.log) none c.counts-counts.result _ before counted)) c.after_files.result c.after_files.ensures.counted
+
+pub returns-in_err-read-clause-met : goal.returns-in_err-read-clause-met
+returns-in_err-read-clause-met g c =
+    let log = g.L.LogSink in
+    let name = c.into_sink-log.ensures.name ∙ c.read_files-read.ensures.counts.0 ∙ c.new-journal.ensures.name in
+    by_map c.read_files-read.ensures.met (λ names among. among)
+    (λ files hands. hands_between c.new-journal.ensures.noted c.new-journal.ensures.handed
+    (ends_as log.noted _ c.into_sink-log.result _ c.read_files-read.new.journal.noted name c.into_sink-log.ensures.noted (search rules))
+    (ends_as log.handed _ c.into_sink-log.result _ c.read_files-read.new.journal.handed name c.into_sink-log.ensures.handed (search rules))
+    (reading_begun c.args.job.now c.args.options.now (most_steps c.from_residual.result c.args.options.now.budget) (shown c.new-journal.result)
+    (shown c.read_files-read.new.journal) (shown c.read_files-read.new.journal) (files_read files c.args.job.now) hands))
+
+pub returns-clause-met : goal.returns-clause-met
+returns-clause-met g c =
+    let log = g.L.LogSink in
+    let is_given = counts_are c.counts-counts.result _ _ c.counts-counts.ensures.warnings c.counts-counts.ensures.errors in
+    let new = counts_of_none c.new-journal.result c.new-journal.ensures.warnings c.new-journal.ensures.errors in
+    by_map (by_with c.in_ok-read.ensures.answered c.read_files-read.ensures.met) (λ names among. among)
+    (λ files read. hands_between c.new-journal.ensures.noted c.new-journal.ensures.handed (search rules) (search rules)
+    (reading_met c.args.job.now c.args.options.now (most_steps c.after_files.result c.args.options.now.budget) (shown c.new-journal.result)
+    (shown c.read_files-read.new.journal) (showing (log.noted c.after_files.new.log) (log.handed c.after_files.new.log))
+    c.in_ok-read.field-0 c.counts-counts.result (counts_at c.new-journal.result) (counts_at c.read_files-read.new.journal)
+    c.new-journal.result.sink.received c.read_files-read.new.journal.sink.received is_given new (files_read files c.args.job.now) read.0 read.1
+    (hands_between c.into_sink-log.ensures.noted c.into_sink-log.ensures.handed refl refl c.after_files.ensures.met)))
+
+pub returns-clause-last : goal.returns-clause-last
+returns-clause-last g c =
+    ok_map (λ report last. by_map c.read_files-read.ensures.met (λ names among. among)
+    (λ files hands. last_between c.new-journal.ensures.noted c.new-journal.ensures.handed (search rules) (search rules)
+    (last_behind hands (last_between c.into_sink-log.ensures.noted c.into_sink-log.ensures.handed refl refl last))))
+    c.after_files.result c.after_files.ensures.last

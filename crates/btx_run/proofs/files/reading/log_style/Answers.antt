@@ -7,6 +7,7 @@ use Rattle.btx_core.specs.language.Files.Lines.{style_line}
 use Rattle.btx_run.proofs.AskedLemmas.{among-none}
 use Rattle.btx_run.proofs.ReadingLemmas.{reads_behind, reads_is, reads_nothing, reads_part, style_is_read}
 use Rattle.btx_run.proofs.LoggingLemmas.{line_begun, logs_line}
+use Rattle.btx_run.proofs.MetLemmas.{hands_nothing, hands_this, part_begun, part_met}
 use Rattle.btx_run.proofs.files.reading.log_style.Goals as goal
 
 pub returns-in_err-line-clause-reads : goal.returns-in_err-line-clause-reads
@@ -39,3 +40,21 @@ returns-clause-reads g c =
     (reads_behind c.with_style.result (counts_at c.args.journal.now) (counts_at c.log_one.new.self) (counts_at c.with_style.new.journal)
     c.args.journal.now.sink.received c.log_one.new.self.sink.received c.with_style.new.journal.sink.received
     (style_line c.args.style.name ∷ []) _ logs read))
+
+pub returns-in_err-line-clause-met : goal.returns-in_err-line-clause-met
+returns-in_err-line-clause-met g c = by_none refl (among-none c.args.job.now.databases) (λ files. hands_nothing c.args.journal.now _)
+
+pub returns-in_err-log_one-clause-met : goal.returns-in_err-log_one-clause-met
+returns-in_err-log_one-clause-met g c =
+    by_none refl (among-none c.args.job.now.databases)
+    (λ files. part_begun c.args.journal.now c.log_one.new.self _ _ _ (style_is_read files c.args.job.now c.args.style.name c.args.style)
+    (hands_this c.args.journal.now c.log_one.new.self c.in_ok-line.line _ c.log_one.ensures.noted c.log_one.ensures.handed
+    (c.in_ok-line.ensures ∙ ap style_line c.name.ensures)))
+
+pub returns-clause-met : goal.returns-clause-met
+returns-clause-met g c =
+    by_map c.with_style.ensures.met (λ names among. among)
+    (λ files hands. part_met c.args.journal.now c.log_one.new.self c.with_style.new.journal _ _ _
+    (style_is_read files c.args.job.now c.args.style.name c.args.style)
+    (hands_this c.args.journal.now c.log_one.new.self c.in_ok-line.line _ c.log_one.ensures.noted c.log_one.ensures.handed
+    (c.in_ok-line.ensures ∙ ap style_line c.name.ensures)) hands)

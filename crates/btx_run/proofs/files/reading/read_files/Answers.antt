@@ -6,6 +6,8 @@ use Rattle.btx_run.specs.refinement.Files.Asked.{names_in}
 use Rattle.btx_run.specs.refinement.Files.Logging.{Logs, bytes_of_lines}
 use Rattle.btx_run.proofs.AskedLemmas.{among-none}
 use Rattle.btx_run.proofs.ReadingLemmas.{reads_behind, reads_part}
+use Rattle.btx_run.specs.refinement.Files.Places.{HandsOf}
+use Rattle.btx_run.proofs.MetLemmas.{hands_both, hands_first}
 use Rattle.btx_run.proofs.files.reading.read_files.Goals as goal
 
 pub returns-in_err-log_all-clause-answered : goal.returns-in_err-log_all-clause-answered
@@ -31,3 +33,14 @@ returns-clause-answered g c =
 
 pub returns-clause-reads : goal.returns-clause-reads
 returns-clause-reads g c = shown_by (returns-clause-answered g c)
+
+pub returns-in_err-log_all-clause-met : goal.returns-in_err-log_all-clause-met
+returns-in_err-log_all-clause-met g c =
+    by_none refl (among-none (names_in c.args.job.now)) (λ files. hands_first c.args.journal.now c.log_all.new.journal c.args.job.now.log _
+    (subst (HandsOf c.args.journal.now c.log_all.new.journal) c.log.ensures c.log_all.ensures.met))
+
+pub returns-clause-met : goal.returns-clause-met
+returns-clause-met g c =
+    by_map c.after_job.ensures.met (λ names among. among)
+    (λ files hands. hands_both c.args.journal.now c.log_all.new.journal c.after_job.new.journal c.args.job.now.log _
+    (subst (HandsOf c.args.journal.now c.log_all.new.journal) c.log.ensures c.log_all.ensures.met) hands)
