@@ -34,8 +34,8 @@ head_note style places event =
     event_note (word_text event.word) event.moment.steps event.moment.before.errors event.moment.after.errors
     ++ item_note style (item_line places event.item) (slice_get style.items event.item)
 
--- A text is what is noted of this event of a job's run: its first lines; for each literal that a command left, since which token it has been there; and the scene
--- before the event's step, in the command of this item, if one was found (that one is found is only
+-- A text is what is noted of this event of a job's run: its first lines; for each literal that a command left, since which token it has been there, or for those
+-- that a step takes which token pushed them (both are only tested); and the scene before the event's step, in the command of this item, if one was found (that one is found is only
 -- tested). `began` is the token that is said to have begun the loop, if the event is a loop's
 -- test
 pub record IsNoteOf (style : Style) (job : Job) (counts : LogCounts) (places : StylePlaces) (event : Event) (text : List ℕ) : Type 0 where

@@ -2,6 +2,7 @@
 ghost use Rattle.std.specs.Prelude.{◌≡◌};
 ghost use Rattle.btx_where.specs.Events.{steps_before};
 
+use btx_bst::{BuiltIn, Callee, Token};
 use btx_machine::LogCounts;
 use std::alloc::{AllocError, Global};
 
@@ -37,7 +38,8 @@ pub struct StepRecord {
 }
 
 /// What is noted of a run: what it is, when; where in the style's items, in which visit of a function, and the place after its token, 0 if there is none. Of
-/// literals that were left, for each, the uppermost first, the place after the token since whose step the stack has been as high.
+/// literals that were left, for each, the uppermost first, the place after the token since whose step the stack has been as high. Before a step, for each of
+/// the three on top, the place after the token that pushed it.
 #[derive(Drop)]
 pub struct Event {
     pub word: Word,
@@ -60,6 +62,9 @@ pub struct RunTrace {
     over: usize,
     // For each literal, the lowest first, the place after the token since whose step the stack has been as high.
     since: Vec<usize>,
+    // For each literal, the lowest first, the place after the token that pushed it, if it is a missing field: what `duplicate$` and `swap$` leave was pushed
+    // before them. Nothing is said of other literals.
+    origins: Vec<usize>,
     // How many visits that logged errors, or events, are noted at most.
     most: usize,
     /// The number of the item that is done.
@@ -81,6 +86,7 @@ impl RunTrace {
             followed,
             over: 0,
             since: Vec::new(alloc),
+            origins: Vec::new(alloc),
             most,
             item: 0,
             visit: 0,
@@ -110,6 +116,7 @@ impl RunTrace {
         if self.followed.get(self.over) == Some(&self.visit) {
             self.over = self.over.saturating_add(1);
             self.since.truncate(0);
+            self.origins.truncate(0);
             return true;
         }
         false
@@ -135,13 +142,20 @@ impl RunTrace {
         Ok(())
     }
 
-    /// The stack is as high as this after a step of the token before a place.
-    pub fn follow(&mut self, depth: usize, place: usize) -> Result<(), AllocError> {
-        self.since.truncate(depth);
-        for _more in self.since.len()..depth {
-            self.since.push(place)?;
+    /// The stack is as high as this after a step of a token, the one before a place.
+    pub fn follow(&mut self, depth: usize, place: usize, token: Token) -> Result<(), AllocError> {
+        let before = self.origins.len();
+        keep_up(&mut self.since, depth, place)?;
+        keep_up(&mut self.origins, depth, place)?;
+        match token {
+            Token::Run(Callee::BuiltIn(BuiltIn::Duplicate)) if depth > before => {
+                duplicate_below(&mut self.origins)
+            }
+            Token::Run(Callee::BuiltIn(BuiltIn::Swap)) if depth == before => {
+                swap(&mut self.origins)
+            }
+            _ => Ok(()),
         }
-        Ok(())
     }
 
     /// The place after the token since whose step the stack has been higher than `below`; 0 if there is none.
@@ -152,23 +166,27 @@ impl RunTrace {
         }
     }
 
-    /// Notes what logged errors, the token before a place, if it did.
-    pub fn note(
-        &mut self,
-        word: Word,
-        moment: &StepRecord,
-        place: usize,
-    ) -> Result<(), AllocError> {
-        if moment.after.errors > moment.before.errors && self.events.len() < self.most {
+    /// Notes that the test of a loop logged errors, the token before a place, if it did.
+    pub fn note_test(&mut self, moment: &StepRecord, place: usize) -> Result<(), AllocError> {
+        if self.is_noted(moment) {
             let since = Vec::new(self.alloc);
-            self.add(word, moment, place, since)?;
+            self.add(Word::Test, moment, place, since)?;
+        }
+        Ok(())
+    }
+
+    /// Notes that a step logged errors, the token before a place, if it did.
+    pub fn note_step(&mut self, moment: &StepRecord, place: usize) -> Result<(), AllocError> {
+        if self.is_noted(moment) {
+            let operands = topmost(self.alloc, self.origins.as_slice(), MOST_OPERANDS)?;
+            self.add(Word::Step, moment, place, operands)?;
         }
         Ok(())
     }
 
     /// Notes that a command left `depth` literals, if that logged errors.
     pub fn note_left(&mut self, moment: &StepRecord, depth: usize) -> Result<(), AllocError> {
-        if moment.after.errors > moment.before.errors && self.events.len() < self.most {
+        if self.is_noted(moment) {
             let mut since = Vec::new(self.alloc);
             for turn in 0..depth.min(MOST_LITERALS) {
                 since.push(self.since(depth.saturating_sub(turn).saturating_sub(1)))?;
@@ -176,6 +194,11 @@ impl RunTrace {
             self.add(Word::Left, moment, 0, since)?;
         }
         Ok(())
+    }
+
+    // Whether what happened in a moment is noted: it logged errors, and there is room.
+    fn is_noted(&self, moment: &StepRecord) -> bool {
+        moment.after.errors > moment.before.errors && self.events.len() < self.most
     }
 
     // Notes an event.
@@ -202,3 +225,43 @@ impl RunTrace {
 
 /// How many literals are shown.
 pub const MOST_LITERALS: usize = 8;
+
+// How many operands a built-in function takes at most.
+const MOST_OPERANDS: usize = 3;
+
+// Makes a list as long as the stack is high; what is new stands for literals of this place.
+fn keep_up(places: &mut Vec<usize>, depth: usize, place: usize) -> Result<(), AllocError> {
+    places.truncate(depth);
+    for _more in places.len()..depth {
+        places.push(place)?;
+    }
+    Ok(())
+}
+
+// The one on top is that below it once more.
+fn duplicate_below(places: &mut Vec<usize>) -> Result<(), AllocError> {
+    let _ = places.pop();
+    if let Some(below) = places.last() {
+        let below = *below;
+        places.push(below)?;
+    }
+    Ok(())
+}
+
+// The two on top change their places.
+fn swap(places: &mut Vec<usize>) -> Result<(), AllocError> {
+    let (top, below) = (places.pop(), places.pop());
+    for place in top.into_iter().chain(below) {
+        places.push(place)?;
+    }
+    Ok(())
+}
+
+// The last of these places, the last one first.
+fn topmost(alloc: Global, places: &[usize], most: usize) -> Result<Vec<usize>, AllocError> {
+    let mut found = Vec::new(alloc);
+    for place in places.iter().rev().take(most) {
+        found.push(*place)?;
+    }
+    Ok(found)
+}

@@ -348,7 +348,7 @@ impl<'s> Known<'s> {
         }
     }
 
-    /// The tokens since which the literals have been there that a command left, the uppermost first; none for another event.
+    /// The tokens since which the literals have been there that a command left, or that pushed those that a step takes, the uppermost first; none for another event.
     pub fn tokens_since(
         &self,
         alloc: Global,
