@@ -463,7 +463,7 @@ mod tests {
             field_at(&code, &Spot { token: Some((0, token)), call })
         };
         assert_eq!(at(2, 0), Some(MissingField::Is(b"title", 2)));
-        assert_eq!([at(3, 3), at(3, 4)], [b"note", b"title"].map(|name| Some(MissingField::Is(name, 3))));
+        assert_eq!([at(3, 3), at(3, 4)], [&b"note"[..], b"title"].map(|name| Some(MissingField::Is(name, 3))));
         // (no field, and no token)
         assert_eq!([at(3, 2), at(3, 9)], [const { None }; 2]);
     }
