@@ -143,6 +143,7 @@ pub enum Seen {
     NoCommaAfterKey,
     NoComma,
     NoEquals,
+    OfConflict,
     OtherForEquals,
     NameOfWords,
     NoValue,
@@ -165,6 +166,7 @@ pub enum Seen {
     NoType,
     NotHidden,
     DefinedBelow,
+    StringFailed,
     MonthsInOne,
     FieldIsMissing,
     CrossrefIsField,
@@ -274,6 +276,8 @@ pub enum Seen {
     YearWithLetter,
     RunOlderAux,
     OtherStyle,
+    EachIncluded,
+    AllEntries,
 }
 
 impl Seen {
@@ -291,6 +295,7 @@ impl Seen {
             Seen::NoCommaAfterKey => "put a comma after the key `$1`",
             Seen::NoComma => "put a comma after the value of `$1`, which ends at $2",
             Seen::NoEquals => "put an `=` after `$1`",
+            Seen::OfConflict => "take out the lines that begin with `<<<<<<<`, `=======` and `>>>>>>>`, and one of the two texts between them: version control left both there",
             Seen::OtherForEquals => "write `$1 = ..`, with an `=` in the place of the `$2`",
             Seen::NameOfWords => "write the field's name without whitespace: `$1 = ..`",
             Seen::NoValue => "write the value of `$1` after the `=`, or take the field out",
@@ -314,6 +319,7 @@ impl Seen {
             Seen::SemicolonForComma => "write a comma after the $1, in the place of the `;`",
             Seen::NoType => "write the type after the `@`, as in `@article{KEY, ..`",
             Seen::NotHidden => "take out the `@` of $1: neither `%` nor `@comment` hides an entry",
+            Seen::StringFailed => "mend the `@string` of `$1` ($2): it has an error, so it defines nothing",
             Seen::DefinedBelow => "move the `@string` of `$1` ($2) above its first use",
             Seen::MonthsInOne => "join two names by `#`: `$1 # \"--\" # $2`",
             Seen::FieldIsMissing => "give the entry a field `$1`: this style takes it without asking whether it is there",
@@ -420,6 +426,8 @@ impl Seen {
             Seen::CommentLine => "take this comment out: a database has no comments inside an entry",
             Seen::YearWithLetter => "write the number alone, `$1 = $3`; or put all of it into braces, `$1 = {$2}`, where the style makes no label of the year",
             Seen::RunOlderAux => "run LaTeX, then BibTeX: $2 is older than $1, and doesn't cite `$3`",
+            Seen::EachIncluded => "run `bibtex-search` on each of $1: these files have databases and styles of their own, as the package `chapterbib` wants it",
+            Seen::AllEntries => "write `\\nocite{*}` if all entries of the databases are meant",
             Seen::OtherStyle => "keep one `\\bibliographystyle` and run LaTeX: `$1` ($2) is in effect, since it stands first; take it away if `$3` (line $4) is meant",
             Seen::LoopWithoutEnd => "change $1 in the body of this loop ($2): its test reads nothing else, so the loop never ends",
         }

@@ -3,6 +3,7 @@
 use crate::advice::Seen;
 use crate::job::{File, Files};
 use crate::nearest::{distance, nearest};
+use crate::search::path_of;
 use crate::terminal::plain;
 use std::fs;
 use std::os::unix::ffi::OsStringExt;
@@ -58,7 +59,7 @@ pub fn meant(error: &[u8], files: &Files) -> Option<String> {
     let name = error.strip_prefix(b"I couldn't open database file ")?;
     let mut there = names(".bib");
     there.retain(|there| files.file(there).is_none());
-    meant_among(name, &there, ".bib")
+    below(base(name)).map(|path| format!("is it `{}`?", plain(&path))).or_else(|| meant_among(name, &there, ".bib"))
 }
 
 /// The name, without its ending, of the one database that is likely to be meant by one that wasn't found: one of nearly this name, or the only one of the folder.
@@ -66,6 +67,9 @@ pub fn database_meant(name: &[u8], files: &Files) -> Option<Vec<u8>> {
     let mut there = names(".bib");
     there.retain(|there| files.file(there).is_none());
     let stem = |name: &[u8]| name.strip_suffix(b".bib").unwrap_or(name).to_vec();
+    if let Some(path) = below(base(name)) {
+        return Some(stem(&path));
+    }
     let stems: Vec<Vec<u8>> = there.iter().map(|name| stem(name)).collect();
     let near = nearest(&stem(base(name)), stems.iter().map(Vec::as_slice)).map(<[u8]>::to_vec);
     near.or_else(|| stems.into_iter().next().filter(|_| there.len() == 1))
@@ -73,7 +77,24 @@ pub fn database_meant(name: &[u8], files: &Files) -> Option<Vec<u8>> {
 
 /// Which `.aux` file may be meant by one that isn't there.
 pub fn meant_job(name: &[u8]) -> Option<String> {
+    if let Some(path) = below(base(name)) {
+        return Some(format!("is it `{}`?", plain(path.strip_suffix(b".aux").unwrap_or(&path))));
+    }
+    let document = [name.strip_suffix(b".aux").unwrap_or(name), b".tex"].concat();
+    let is_there = path_of(&document).is_file();
     meant_among(name, &names(".aux"), ".aux")
+        .or_else(|| is_there.then(|| format!("run LaTeX on {} first", plain(&document))))
+}
+
+/// The file of this name in one of the folders of the present one, if only one of them has it.
+fn below(name: &[u8]) -> Option<Vec<u8>> {
+    let folders = fs::read_dir(".").ok()?.take(MOST_READ).filter_map(|entry| {
+        let entry = entry.ok()?;
+        let is_folder = entry.file_type().ok()?.is_dir();
+        Some(entry.file_name().into_vec()).filter(|name| is_folder && !name.starts_with(b"."))
+    });
+    let mut found = folders.map(|folder| [&folder[..], b"/", name].concat()).filter(|path| path_of(path).is_file());
+    found.next().filter(|_| found.next().is_none())
 }
 
 fn meant_style(name: &[u8]) -> Option<String> {

@@ -241,13 +241,17 @@ impl<'a> Code<'a> {
         number
     }
 
+    /// The tokens of a line.
+    pub(crate) fn tokens_in(&self, line: usize) -> Range<usize> {
+        let (start, end) = self.text.span(line);
+        let [first, behind] = [start, end].map(|place| self.tokens.partition_point(|token| token.start < place));
+        first..behind
+    }
+
     /// The token of this text in a line, where there is one alone: else the one alone that has that number in its braces.
     pub(crate) fn index(&self, line: usize, text: &[u8], number: Option<usize>) -> Option<usize> {
-        let (start, end) = self.text.span(line);
-        let first = self.tokens.partition_point(|token| token.start < start);
-        let behind = self.tokens.partition_point(|token| token.start < end);
         let is_it = |index: &usize| Folded(self.of(*index)) == Folded(text);
-        let all: Vec<usize> = (first..behind).filter(is_it).take(MOST_OF_LINE + 1).collect();
+        let all: Vec<usize> = self.tokens_in(line).filter(is_it).take(MOST_OF_LINE + 1).collect();
         if let [only] = all[..] {
             return Some(only);
         }

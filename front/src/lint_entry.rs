@@ -339,7 +339,7 @@ impl Search<'_> {
                 note.errors.clone().filter_map(|number| errors.get(number)?.as_ref()).collect();
             for (number, warning) in warnings.iter().enumerate() {
                 let error = of_note.iter().find(|error| fits(warning, error)).filter(|_| is_at(warning, &note));
-                let since = || note.since.iter().flatten().cloned().collect();
+                let since = || note.since.iter().flatten().map(|spot| spot.call.clone()).collect();
                 found.extend(error.map(|error| (number, Proof { message: error.line.to_vec(), since: since() })));
             }
         }

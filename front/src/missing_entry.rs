@@ -156,7 +156,13 @@ fn clue_of_nearest(entries: &Entries<'_>, key: &[u8]) -> Clue {
         let advice = if is_parent { Seen::NearParent.with(&[&near]) } else { Seen::NearKey.with(&[&written, &near]) };
         return Clue { place: Some(format!("is it `{near}`, {}?", begins(stored))), advice: Some(advice) };
     }
-    clue_of_keyless(entries, key).unwrap_or_default()
+    clue_of_keyless(entries, key).unwrap_or_else(|| clue_of_all(entries, key))
+}
+
+/// What is said of a key that may stand for all entries.
+fn clue_of_all(entries: &Entries<'_>, key: &[u8]) -> Clue {
+    let is_meant = [&b"all"[..], b"everything"].contains(&key) && entries.parent(key).is_none();
+    Clue { place: None, advice: is_meant.then(|| Seen::AllEntries.with(&[])) }
 }
 
 /// What is said of an entry that has no key, which may be the one that is looked for.
@@ -503,6 +509,8 @@ mod tests {
         assert_eq!(place, "`smith\u{2013}2010`, which begins at d.bib:1, has an en dash (U+2013): is it that one?");
         assert_eq!(clue_of("@misc{a, crossref = {pra08}} @misc{pra2008}", "pra08").1, "write `crossref = {pra2008}`");
         assert_eq!(clue_of("@misc{k}", "nothing"), (String::new(), String::new()));
+        assert_eq!(clue_of("@misc{k}", "all"), (String::new(), Seen::AllEntries.with(&[])));
+        assert_eq!(clue_of("@misc{k, crossref = {all}}", "all"), (String::new(), String::new()));
         assert_eq!(clue_of("@misc{k}", "").1, "write a key in the empty `\\cite{}`, or take it out");
     }
 

@@ -353,6 +353,9 @@ impl<'a> Place<'_, 'a> {
     fn before_equals(&self) -> Option<String> {
         let name = if self.item.is_entry() { *self.inside.fields.last()? } else { self.item.key?.name };
         let sign = |byte: &u8| matches!(byte, b':' | b'~' | b'-' | b'>');
+        if ["<<<<<<<", "=======", ">>>>>>>"].iter().any(|mark| name.starts_with(mark.as_bytes())) {
+            return Some(Seen::OfConflict.with(&[]));
+        }
         if let Some((last, rest)) = name.split_last().filter(|(last, _)| sign(last)) {
             return Some(Seen::OtherForEquals.with(&[&plain(rest), &plain(&[*last])]));
         }
@@ -547,6 +550,10 @@ mod tests {
     fn signs_in_the_wrong_place_are_named() {
         assert_eq!(advice("@misc{a, x {T}}"), "put an `=` after `x`");
         assert_eq!(advice("@misc{a, x 1}"), "put an `=` after `x`");
+        assert_eq!(
+            advice("@misc{a,\n<<<<<<< HEAD\n x = 1,\n=======\n x = 2,\n>>>>>>> other\n}"),
+            Seen::OfConflict.with(&[])
+        );
         assert_eq!(advice("@misc{a, x: {T}}"), "write `x = ..`, with an `=` in the place of the `:`");
         assert_eq!(advice("@misc{a, x : {T}}"), "write `x = ..`, with an `=` in the place of the `:`");
         assert_eq!(advice("@misc{a, book title = {T}}"), "write the field's name without whitespace: `booktitle = ..`");

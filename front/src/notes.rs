@@ -63,8 +63,8 @@ pub struct Note {
     pub depth: usize,
     /// Those on top, the uppermost first.
     pub stack: Vec<Held>,
-    /// Since which token each literal that was left has been there, the uppermost first.
-    pub since: Vec<Option<Call>>,
+    /// The uppermost first: since which token each literal that was left has been there, or which one pushed a missing field that a step takes.
+    pub since: Vec<Option<Spot>>,
 }
 
 /// The notes of a run, whose style has this name.
@@ -133,7 +133,7 @@ impl Note {
             b"from" => self.callers.extend(spot(rest, style, false)),
             b"depth" => self.depth = number(rest).map_or(0, |(depth, _)| depth),
             b"literal" => self.stack.extend(literal(rest)),
-            b"since" => self.since.push(spot(rest, style, true).map(|spot| spot.call)),
+            b"since" => self.since.push(spot(rest, style, true)),
             _ => {}
         }
     }
@@ -193,7 +193,8 @@ mod tests {
         assert_eq!(callers, [call("names.text", 36), call("{..} of book", 0)]);
         let stack: Vec<_> = first.stack.iter().map(|held| &held.literal[..]).collect();
         assert_eq!((first.depth, stack), (9, vec![&b"\"a?\""[..], b"\"b.."]));
-        assert_eq!(read[1].since, [Some(call("FUNCTION {leaves}", 31)), None]);
+        let since = Spot { token: Some((2, 0)), call: call("FUNCTION {leaves}", 31) };
+        assert_eq!(read[1].since, [Some(since), None]);
     }
 
     #[test]

@@ -404,7 +404,8 @@ mod tests {
             let held = |literal: &&str| Held { literal: literal.as_bytes().to_vec(), since: None };
             let at = Call { function: b"f".to_vec(), file: b"s.bst".to_vec(), line };
             let stack = stack.iter().map(held).collect();
-            let scene = Scene { at, token: None, callers: Vec::new(), caller_tokens: Vec::new(), stack };
+            let scene =
+                Scene { at, token: None, callers: Vec::new(), caller_tokens: Vec::new(), stack, origins: Vec::new() };
             advice_at(&code, &scene, EMPTY_STACK, b":=")
         };
         let below = "no value stands below `'s` on the stack; push one before `'s`, or before the function is run";

@@ -113,7 +113,20 @@ pub fn missing_field_of<'a>(code: &Code<'a>, scene: &Scene, error: &[u8], functi
     let is_of_one = error.starts_with(IS_MISSING) || function == b"=";
     let takes = advice::operands(function).filter(|_| is_of_one)?.split(' ').count();
     let position = scene.stack.iter().take(takes).position(|held| held.literal == b"missing field")?;
-    missing_field(code, function, &Frame::of_scene(scene), position)
+    let pushed = scene.origins.get(position).and_then(|origin| field_at(code, origin.as_ref()?));
+    pushed.or_else(|| missing_field(code, function, &Frame::of_scene(scene), position))
+}
+
+/// The field that a token pushes whose place is noted.
+fn field_at<'a>(code: &Code<'a>, spot: &Spot) -> Option<MissingField<'a>> {
+    let (line, (_, number)) = (spot.call.line, spot.token?);
+    let fields = code.tokens_in(line).filter(|token| code.number_of(*token) == number);
+    let mut names = fields.filter_map(|token| match pushed_by(code, token) {
+        Origin::Field(name, _) => Some(name),
+        Origin::Other => None,
+    });
+    let name = names.next()?;
+    names.all(|other| other.eq_ignore_ascii_case(name)).then_some(MissingField::Is(name, line))
 }
 
 /// The text of an error at the token that begins at this place of the style, with the field named that is missing, as the original names it. None where it is about something else, or the
@@ -394,6 +407,7 @@ fn effect_of_built_in(name: &[u8]) -> Option<(usize, usize)> {
 #[cfg(test)]
 mod tests {
     use super::*;
+    use crate::scene::Call;
 
     const STYLE: &str = "ENTRY {title note}{}{}\nSTRINGS {s}\n\
         FUNCTION {out}\n{ duplicate$ empty$\n 'pop$\n 'write$\n if$ }\n\
@@ -438,6 +452,20 @@ mod tests {
         assert_eq!(named("{out} { ", "write$"), is_missing("note"));
         // (either of two fields, or a function that is called twice)
         assert_eq!([named("title note ", "*"), named("{twice} { ", "write$")], [None, None]);
+    }
+
+    #[test]
+    fn a_missing_field_is_named_by_what_pushed_it() {
+        let style = "ENTRY {title note}{}{}\nFUNCTION {misc} { title\n { note } pop$ note title * }\nITERATE {misc}\n";
+        let code = Code::new(style.as_bytes());
+        let at = |line, token| {
+            let call = Call { function: b"FUNCTION {misc}".to_vec(), file: b"s.bst".to_vec(), line };
+            field_at(&code, &Spot { token: Some((0, token)), call })
+        };
+        assert_eq!(at(2, 0), Some(MissingField::Is(b"title", 2)));
+        assert_eq!([at(3, 3), at(3, 4)], [&b"note"[..], b"title"].map(|name| Some(MissingField::Is(name, 3))));
+        // (no field, and no token)
+        assert_eq!([at(3, 2), at(3, 9)], [const { None }; 2]);
     }
 
     #[test]

@@ -289,7 +289,14 @@ impl Search<'_> {
 
 /// The scene of a token of which nothing else is known.
 fn of_token(token: Token, at: Call) -> Scene {
-    Scene { at, token: Some(token), callers: Vec::new(), caller_tokens: Vec::new(), stack: Vec::new() }
+    Scene {
+        at,
+        token: Some(token),
+        callers: Vec::new(),
+        caller_tokens: Vec::new(),
+        stack: Vec::new(),
+        origins: Vec::new(),
+    }
 }
 
 /// The tokens of a style's text at which messages were met, each with its function as it is shown and its line.
@@ -353,7 +360,8 @@ fn scene(note: &Note, stack: Vec<Held>) -> Option<Scene> {
     let mut spots = opened(note).into_iter().chain(&note.command);
     let Spot { token, call } = spots.next()?;
     let (callers, caller_tokens) = spots.map(|spot| (spot.call.clone(), spot.token)).unzip();
-    Some(Scene { at: call.clone(), token: *token, callers, caller_tokens, stack })
+    let origins = if note.what == What::Step { note.since.clone() } else { Vec::new() };
+    Some(Scene { at: call.clone(), token: *token, callers, caller_tokens, stack, origins })
 }
 
 /// The literals that a command left, which the log lists, the uppermost first; none where the list isn't clear, as a literal may have several lines.
@@ -362,7 +370,10 @@ fn left_of(note: &Note, logged: &Logged<'_>) -> Vec<Held> {
     if logged.listing.len() < shown || shown < MOST_LEFT && logged.listing.len() > shown {
         return Vec::new();
     }
-    let held = |(since, literal): (&Option<Call>, &&[u8])| Held { literal: literal.to_vec(), since: since.clone() };
+    let held = |(since, literal): (&Option<Spot>, &&[u8])| {
+        let since = since.as_ref().map(|spot| spot.call.clone());
+        Held { literal: literal.to_vec(), since }
+    };
     note.since.iter().zip(&logged.listing).map(held).collect()
 }
 

@@ -376,6 +376,7 @@ mod tests {
             callers: Vec::new(),
             caller_tokens: Vec::new(),
             stack: Vec::new(),
+            origins: Vec::new(),
         });
         let texts = ["missing field is not a string", "x is not a string", "You can't pop an empty literal stack"];
         let lacked = |number: usize| [Some("author"), Some("author"), None, None, None][number].map(String::from);

@@ -3,7 +3,7 @@
 //! A log says which built-in function met an error, and for which entry, but not where in the style that was. Who finds that out hands it in
 //! as [`Scenes`], by the numbers of the messages; without it the line of the last command that executes functions is named.
 
-use crate::notes::Token;
+use crate::notes::{Spot, Token};
 use std::collections::{BTreeMap, HashMap};
 
 /// A place in a function of a style.
@@ -56,6 +56,8 @@ pub struct Scene {
     pub caller_tokens: Vec<Option<Token>>,
     /// What the stack held, the uppermost literal first.
     pub stack: Vec<Held>,
+    /// Of the uppermost of them, which token pushed each, if it is a missing field and that is known.
+    pub origins: Vec<Option<Spot>>,
 }
 
 impl Scene {

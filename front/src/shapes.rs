@@ -414,7 +414,7 @@ mod tests {
         assert_eq!(shapes(log, &[("s.bst", style)]), lines);
         let log = "Error--Integer overflow while executing + for entry k\n";
         let at = Call { function: b"f".to_vec(), file: b"s.bst".to_vec(), line: 77 };
-        let scene = Scene { at, token: None, callers: vec![], caller_tokens: vec![], stack: vec![] };
+        let scene = Scene { at, token: None, callers: vec![], caller_tokens: vec![], stack: vec![], origins: vec![] };
         let scenes = Scenes { errors: [(0, scene)].into(), ..Scenes::default() };
         let files = Files { top: vec![], all: vec![file("s.bst", style)] };
         let placed = written(&Log::new(log.as_bytes()).with_scenes(&scenes), &files, Part::Whole);

@@ -40,10 +40,10 @@ const OF_NAMES: [&str; 2] = ["author", "editor"];
 
 /// Words that no person's name has; `python/btx/doctor.py` has the same.
 #[rustfmt::skip]
-const ORGANIZATIONS: [&str; 39] = [
-    "academy", "association", "bureau", "center", "centers", "centre", "centres", "collaboration", "college", "commission", "committee", "consortium", "corporation", "council", "department", "federation", "foundation", "group",
-    "institut", "institute", "institution", "laboratories", "laboratory", "ministerium", "ministry", "ministère", "organisation", "organization", "society", "universidad", "universidade",
-    "universiteit", "universitet", "university", "università", "universität", "université", "universitat", "verein",
+const ORGANIZATIONS: [&str; 43] = [
+    "academy", "alliance", "association", "bureau", "center", "centers", "centre", "centres", "collaboration", "college", "commission", "committee", "consortium", "corporation", "council", "department", "federation", "foundation", "gesellschaft", "group",
+    "institut", "institute", "institution", "laboratories", "laboratory", "ministerium", "ministry", "ministère", "organisation", "organization", "society", "union", "universidad", "universidade",
+    "universiteit", "universitet", "university", "università", "universität", "université", "universitat", "verband", "verein",
 ];
 
 /// Fields of addresses and of other programs, which no style sets as a text of TeX.

@@ -79,7 +79,7 @@ static void check_notes(const btx_file *files, uint32_t most, size_t room, uint3
 static void places(void) {
     btx_file files[] = {file("j.aux", "\\citation{k}\n\\bibdata{d}\n\\bibstyle{s}\n"), file("d.bib", "@misc{k, title = 1}"),
                         file("s.bst", "ENTRY{title}{}{}\nFUNCTION {f} {title\n#1 + pop$}\nREAD\nITERATE {f}")};
-    const char *text = "event step 4 0 1\nitem ITERATE 5 f\nentry k\nnext +\nat in 3 0 2 f\ndepth 2\nliteral 1 1\nliteral 3 \"1\"\n";
+    const char *text = "event step 4 0 1\nitem ITERATE 5 f\nsince in 3 0 1 f\nsince in 2 0 0 f\nentry k\nnext +\nat in 3 0 2 f\ndepth 2\nliteral 1 1\nliteral 3 \"1\"\n";
     check_notes(files, 5, 4096, BTX_DONE, text);
     check_notes(files, 5, strlen(text), BTX_DONE, text);
     check_notes(files, 5, strlen(text) - 1, BTX_FULL, text);

@@ -39,6 +39,7 @@ LISTED = {
     ("btx_command", "read_in"): (1, "the path couldn't be made"),
     ("btx_command", "read_some"): (1, "2^64 signals interrupted one reading, which no time allows"),
     ("btx_command", "read_front"): (2, "the bytes couldn't be appended, or 2^64 readings didn't end the file, which no time allows"),
+    ("btx_read", "in_32_bits"): (1, "a name or a text of a record has 4 GB or more, which lie in memory twice"),
     ("btx_read", "number_at"): (1, "a style has more than 2^32 fields, which no file of at most 2^31 bytes declares"),
     ("btx_stack", "append_two"): (1, "the second text couldn't be appended"),
     ("btx_step", "product"): (1, "there are more values than a number counts, which no memory holds"),

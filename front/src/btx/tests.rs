@@ -81,8 +81,7 @@ fn a_missing_file_is_a_message() {
 fn notes_say_where_a_style_stands() {
     let style = STYLE.replace("title write$", "#1 write$");
     let noted = notes(b"a.aux", &small_job(&style), &OPTIONS, 5).unwrap();
-    let wanted =
-        "event step 4 0 1\nitem ITERATE 4 call.type$\nentry k\nnext write$\nat in 2 0 1 misc\ndepth 1\nliteral 1 1\n";
+    let wanted = "event step 4 0 1\nitem ITERATE 4 call.type$\nsince in 2 0 0 misc\nentry k\nnext write$\nat in 2 0 1 misc\ndepth 1\nliteral 1 1\n";
     assert_eq!(String::from_utf8(noted).unwrap(), wanted);
     assert_eq!(notes(b"a.aux", &small_job(STYLE), &OPTIONS, 5).unwrap(), b"");
     let given = for_c(&[]);

@@ -31,7 +31,8 @@ impl<'a, W: Write> Explainer<'a, W> {
                 return self.page.put_advice_once(&Seen::CommasBetweenKeys.with(&[&keys]));
             }
         }
-        match self.other_style(message.text) {
+        let advice = self.each_included(message.text).or_else(|| self.other_style(message.text));
+        match advice {
             Some(advice) => self.page.put_advice_once(&advice),
             None => self.advise(&[Section::Aux], message.text),
         }
@@ -132,6 +133,21 @@ impl<'a, W: Write> Explainer<'a, W> {
         let argument = line.split(|byte| matches!(byte, b'{' | b'}')).nth(1).unwrap_or_default();
         let first = argument.split(|byte| *byte == b',').next().unwrap_or_default();
         self.show_in_document(named, first.trim_ascii()).map(|_| ())
+    }
+
+    /// What to do about a second style or database, where several files that are included have some of their own: those are the jobs.
+    fn each_included(&self, error: &[u8]) -> Option<String> {
+        if ![&b"Illegal, another \\bibstyle command"[..], b"Illegal, another \\bibdata command"].contains(&error) {
+            return None;
+        }
+        let has_list =
+            |bytes: &[u8]| [&b"\\bibstyle{"[..], b"\\bibdata{"].iter().all(|word| find(bytes, word).is_some());
+        let of_own = self.files.with_ending(".aux").skip(1).filter(|file| file.bytes.as_deref().is_some_and(has_list));
+        let jobs: Vec<String> =
+            of_own.map(|file| plain(file.name.strip_suffix(b".aux").unwrap_or(&file.name))).collect();
+        let dots = if jobs.len() > MOST_OF_SCENE { ", .." } else { "" };
+        let shown: Vec<String> = jobs.iter().take(MOST_OF_SCENE).map(|job| format!("`{job}`")).collect();
+        (jobs.len() > 1).then(|| Seen::EachIncluded.with(&[&format!("{}{dots}", shown.join(", "))]))
     }
 
     /// What to do about a second style: which of them is in effect, and where the document names both.

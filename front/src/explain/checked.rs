@@ -143,6 +143,7 @@ mod tests {
             callers: vec![call("ITERATE {call.type$}", 9)],
             caller_tokens: vec![None],
             stack: Vec::new(),
+            origins: Vec::new(),
         };
         let said = |scene: &Scene| said_of_met(&found, &warning_of(Fault::WrongKind, b"*", scene), &code);
         let met = said(&at(6, 4));

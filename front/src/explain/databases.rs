@@ -225,6 +225,10 @@ impl<'a, W: Write> Explainer<'a, W> {
         let Stored { database, item: defined } = self.entries().string(name)?;
         let place = |name: &[u8]| files.with_ending(".bib").position(|file| file.name == name);
         let is_below = (place(&database.file.name), defined.start) > (place(&file.name), item.start);
+        if defined.fault.is_some() {
+            let at = crate::mistakes::line_of(database.file, &database.text, defined.start);
+            return Some(Seen::StringFailed.with(&[&plain(name), &at]));
+        }
         if is_below && database.file.name != file.name {
             let first = plain(shown_path(database.file));
             return Some(Seen::DefinedInLater.with(&[&in_order(files, database.file, file), &first]));
@@ -267,6 +271,7 @@ impl<'a, W: Write> Explainer<'a, W> {
         }
         let name = between(text, b"string name \"", b"\" is undefined")?;
         let mut known = self.known_strings();
+        known.retain(|string| !string.eq_ignore_ascii_case(name));
         if !is_in_month(name, bytes, item) && !begins_month(name) {
             known.retain(|string| !is_month(string));
         }

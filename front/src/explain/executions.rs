@@ -59,6 +59,14 @@ pub(super) struct Execution<'a> {
     pub(super) checked: Option<Rc<Warnings>>,
 }
 
+/// What the log says where a function finds nothing on the stack.
+const EMPTY_STACK: &[u8] = b"You can't pop an empty literal stack";
+
+/// Whether an error says that nothing was on the stack, and doesn't follow from another one.
+fn is_unfed(error: &[u8], follows: bool) -> bool {
+    error == EMPTY_STACK && !follows
+}
+
 impl<'a> Execution<'a> {
     pub(super) fn new(log: &Log<'a>) -> Execution<'a> {
         Execution {
@@ -127,6 +135,11 @@ impl<'a, W: Write> Explainer<'a, W> {
             self.put_origin()?;
         }
         self.teach(message, function)?;
+        if let Some(call) =
+            message.scene.and_then(|scene| self.first_call(scene)).filter(|_| is_unfed(message.text, follows))
+        {
+            self.page.put_place(&call)?;
+        }
         let advice = self.advice_at(message, function);
         match advice.or_else(|| said.and_then(|said| said.advice)) {
             Some(advice) => self.page.put_advice(&advice),
@@ -268,7 +281,7 @@ impl<'a, W: Write> Explainer<'a, W> {
 
     /// Says what a function takes, or what its test leaves, where an error is about that; once for each function.
     fn teach(&mut self, message: &Message<'a>, function: &'a [u8]) -> io::Result<()> {
-        let is_of_operands = message.text == b"You can't pop an empty literal stack"
+        let is_of_operands = message.text == EMPTY_STACK
             || advice::find(&[Section::Execution], message.text).is_some_and(|advice| advice.is_of_operands());
         let Some(operands) = advice::operands(function).filter(|_| is_of_operands) else { return Ok(()) };
         if !self.execution.taught.insert(function) {
@@ -302,6 +315,21 @@ impl<'a, W: Write> Explainer<'a, W> {
     fn advice_at(&mut self, message: &Message<'a>, function: &[u8]) -> Option<String> {
         let scene = message.scene?;
         advice_at(self.code_of(scene)?, scene, message.text, function)
+    }
+
+    /// The call in the function that a command runs, from which the others follow, if there are others.
+    fn first_call(&mut self, scene: &Scene) -> Option<String> {
+        let calls: Vec<&Call> = std::iter::once(&scene.at).chain(&scene.callers).collect();
+        let [.., inner, outer, command] = calls[..] else { return None };
+        let is_call = command.is_command() && inner.owner() != outer.owner() && outer.line > 0;
+        let path = plain(last_part(self.sources.file(&scene.at.file).map_or(&scene.at.file[..], shown_path)));
+        let (caller, called) = (plain(outer.owner()), plain(inner.owner()));
+        is_call.then(|| {
+            format!(
+                "look at {path}:{} first, where `{caller}` calls `{called}`: is something pushed for it?",
+                outer.line
+            )
+        })
     }
 
     /// Which field is missing where a function takes one that is, or which may be.

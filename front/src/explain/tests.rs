@@ -141,7 +141,14 @@ fn scenes_are_shown() {
     let at = |function: &str, line| Call { function: function.into(), file: b"s.bst".to_vec(), line };
     let callers = vec![at("book", 73), at("ITERATE {call.type$}", 100)];
     let stack = vec![Held { literal: b"\"a\x1b\"".to_vec(), since: Some(at("FUNCTION {g}", 7)) }];
-    let scene = Scene { at: at("FUNCTION {f}", 28), token: None, callers, caller_tokens: vec![None; 2], stack };
+    let scene = Scene {
+        at: at("FUNCTION {f}", 28),
+        token: None,
+        callers,
+        caller_tokens: vec![None; 2],
+        stack,
+        origins: vec![],
+    };
     let scenes = Scenes { errors: [(1, scene)].into(), ..Scenes::default() };
     let log = "Error--Integer overflow while executing +\n".repeat(2);
     let output = explained(&Log::new(log.as_bytes()).with_scenes(&scenes), &job("", ""), &Terminal::NONE);

@@ -96,7 +96,7 @@ impl<'a, W: Write> Explainer<'a, W> {
         let Stored { database, item } = self.entries().entry(key)?;
         if item.fault.is_some() {
             let at = crate::mistakes::line_of(database.file, &database.text, item.end);
-            return Some(format!("this may follow from the error above: nothing of the entry after {at} is read"));
+            return Some(format!("this may follow from the error above: from {at} on, nothing of the entry is read"));
         }
         let (bytes, inside) = (database.text.bytes, Inside::of(database.text.bytes, item));
         if self.missing.children.contains(&key.to_ascii_lowercase()) {

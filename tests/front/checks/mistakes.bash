@@ -55,6 +55,8 @@ mistake in_a_comment '@comment{k, author = {A. B}}\n@misc{m}' '`k` stands at d.b
 mistake no_equals '@misc{k,\n author {A. B}}\n' 'd.bib:2:' 'put an `=` after `author`'
 mistake colon '@misc{k,\n author : {A. B}}\n' 'write `author = ..`, with an `=` in the place of the `:`'
 mistake field_of_words '@misc{k,\n book title = {T}}\n' 'write the field'"'"'s name without whitespace: `booktitle = ..`'
+mistake conflict '@misc{k,\n<<<<<<< HEAD\n title = {A},\n=======\n title = {B},\n>>>>>>> other\n}\n' 'd.bib:2:' 'take out the lines that begin with `<<<<<<<`'
+mistake string_that_failed '@string{e = "E}\n@article{k, journal = e}\n' 'mend the `@string` of `e` (d.bib:1): it has an error, so it defines nothing'
 mistake plus_for_hash '@misc{k,\n title = {A} + {B},\n author = {A. B}}\n' 'write `#` in the place of the `+`: it joins the parts of the value of `title`'
 mistake second_quote '@misc{k,\n title = "A,\n}\n' 'close the value of `title`, which begins at d.bib:2: its second quote is missing'
 mistake other_brace_after_comma '@misc(k,\n title = {A},\n}\n' 'close this item by `)`, since it is opened by `(`: @misc{k}, which begins at d.bib:1'
@@ -100,7 +102,7 @@ mistake entry_in_comment '@comment{@misc{k, title = {T}}}\n@misc{k, author = {A.
 mistake of_biblatex '@article{k, journaltitle = {J}}\n' 'it has `journaltitle`: is it `journal`? (d.bib:1)' 'call it `journal`: `journaltitle` is a field of `biblatex`'
 mistake field_of_another_type '@article{k,\n booktitle = {J}}\n' 'it has `booktitle`: is it `journal`? (d.bib:2)' 'call it `journal`, as entries of this type have it'
 mistake space_of_no_break '@article{k,\n author = {A. B},\n journal\xc2\xa0 = {J}}\n' 'has a no-break space (U+00A0) (d.bib:3)' 'write the name once more, without that space: `journal`'
-mistake follows_from_an_error '@article{k,\n author = {A. B}\n journal = {J}}\n' 'this may follow from the error above: nothing of the entry after d.bib:3 is read'
+mistake follows_from_an_error '@article{k,\n author = {A. B}\n journal = {J}}\n' 'this may follow from the error above: from d.bib:3 on, nothing of the entry is read'
 mistake follows_from_a_string '@article{k, author = {A. B}, journal = zz}\n' "this follows from above: the string \`zz\` isn't defined"
 # keys
 mistake near_parent '@article{k, author = {A. B}, crossref = {vol95}}\n@book{vol1995}\n' 'is it `vol1995`, which begins at d.bib:2?' 'write `crossref = {vol1995}`' "the entry's parent wasn't found"
@@ -591,4 +593,32 @@ printf '%s\n' '@misc{k, author = {Ann Lee and Sammy Davis, Jr.}}' '@misc{l, auth
 run_search -explain job
 wants_words "$folder/stdout" 'write `Davis, Jr., Sammy`, as in `von Last, Jr, First`: `Jr.` stands in the place of the first name'
 wants_words "$folder/stdout" 'write `Lee, A.` and so on, with a comma: the last word, here `A`, is taken as the last name'
+end
+
+# a job whose parts are jobs of their own, and files in a folder below
+begin mistake_each_included
+write_author_style
+for part in one two; do
+    printf '\\citation{k}\n\\bibstyle{s}\n\\bibdata{d}\n' >$part.aux
+done
+printf '\\@input{one.aux}\n\\@input{two.aux}\n' >job.aux
+echo '@misc{k, author = {A. B}}' >d.bib
+run_search -explain -terse job
+wants_words "$folder/stdout" 'run `bibtex-search` on each of `one`, `two`'
+end
+
+begin mistake_in_a_folder_below
+write_author_style
+mkdir bib build
+printf '%s\n' '\citation{k}' '\bibdata{works}' '\bibstyle{s}' >job.aux
+echo '@misc{k, author = {A. B}}' >bib/works.bib
+run_search -explain -terse job
+wants_words "$folder/stdout" 'write `\bibliography{bib/works}`'
+mv job.aux build
+run_search job
+wants_words "$folder/stderr" 'is it `build/job`?'
+rm build/job.aux
+: >job.tex
+run_search job
+wants_words "$folder/stderr" 'run LaTeX on job.tex first'
 end
