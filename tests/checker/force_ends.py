@@ -2,8 +2,8 @@
 
     python3 force_ends.py [--styles N] [--real N] [--jobs N] [--seed N] [--processes N] [--folder FOLDER] LIBRARY.so
 
-LIBRARY.so is the library for C (library/out/libbtx.so.1). Half of the styles are made from a seed, with loops that count a variable down or up or a literal down, make a text shorter or walk along it, and half of these have a token
-changed. With --real N, N are of a folder (TeX Live's, if it is there), of which most have a token changed. Of each the bound is asked for with the number of bytes that the job's variables keep: 0
+LIBRARY.so is the library for C (library/out/libbtx.so.1). Half of the styles are made from a seed, with loops that count a variable down or up or a literal down, make a text shorter, in a variable or on the stack, or walk along it, and half of these
+have a token changed. With --real N, N are of a folder (TeX Live's, if it is there), of which most have a token changed. Of each the bound is asked for with the number of bytes that the job's variables keep: 0
 to 20,000, where small numbers make it tight. A bound above MOST_STEPS is no budget: such a run gets MOST_STEPS, and may be stopped. The last line is 'N passed, M failed', of the styles that are
 said to end and of which a run had its bound as budget."""
 
@@ -12,7 +12,7 @@ import concurrent.futures
 import pathlib
 
 from library import Checker
-from make_styles import Maker
+from make_styles import HEAD, Maker
 
 TEX_LIVE = "/usr/share/texlive/texmf-dist/bibtex/bst"
 MOST_STEPS = 5_000_000
@@ -30,6 +30,21 @@ COUNTERS = [b"#3", b"#0", b"#-2", b"s num.names$", b"u num.names$", b"i", b"j #1
 
 class LoopMaker(Maker):
     """Styles with loops that end, or nearly so."""
+
+    def style(self):
+        return self.cutting_style() if self.random.random() < 0.15 else super().style()
+
+    def cutting_style(self):
+        """A style whose loop puts the rest of a text in its place, which a function leaves on top that cuts the text below a number."""
+        v, t, given = self.pick([b"i", b"j"]), self.pick([b"s", b"u"]), self.pick([b"s", b"u"])
+        more, last = self.pick([b"", b"", b"#1 + ", b"#2 - "]), self.pick([b"", b"", b"#2147483647 + ", b"i + "])
+        cut = (b"FUNCTION {cut} {'" + v + b" := duplicate$ " + v + b" #1 + #1 substring$ \"\" = {\"\"} {'" + t + b" := " + v + b" " + self.pick([b"", b"#3 + ", b"#-1 + "])
+               + b"duplicate$ " + self.pick([b"#2", b"#2", b"#2", b"#1"]) + b" < {pop$ " + t + b" \"\"} {" + more + b"duplicate$ " + t
+               + b" swap$ #1 swap$ substring$ swap$ " + last + t + b" swap$ global.max$ substring$} if$} if$}\n")
+        loop = (b"FUNCTION {misc} {title empty$ {\"\"} 'title if$ {duplicate$ \"\" = not} {" + self.pick([b"#1", b"#3", b"i"]) + b" cut '" + given + b" := write$ "
+                + self.pick([b"", b"newline$ ", b"u write$ ", b"j #1 + 'j := "]) + given + b"} while$ pop$}\n")
+        text = HEAD + b"FUNCTION {not} {{#0} {#1} if$}\n" + cut + loop + b"READ\nITERATE {call.type$}\n"
+        return self.changed(text, 8) if self.random.random() < 0.5 else text
 
     def statement(self, depth=0):
         if depth > 2 or self.random.random() < 0.5:
@@ -50,6 +65,7 @@ class LoopMaker(Maker):
             b"{" + part + b"\"\" = not} {" + part + b"\"A\" = {u write$ " + stride + b"} {" + other + b"} if$} while$",
             self.pick([b"#0", b"#-9", b"j"]) + b" '" + v + b" := {" + below + b"} {" + self.pick([b"", inside]) + b" " + v + b" #1 + '" + v + b" := " + self.pick([b"", inside]) + b"} while$",
             self.pick(COUNTERS) + b" {" + self.pick(ASKS) + b"} {" + self.pick([b"", b"swap$ \"x\" * swap$ ", b"swap$ " + inside + b" swap$ "]) + b"#1 -} while$ pop$",
+            b"{" + t + b" #1 #1 substring$ \"\" = not} {" + inside + b" " + t + b" " + rest + b"} while$",
             b"title empty$ {\"\"} 'title if$ '" + t + b" :=",
         ])
 

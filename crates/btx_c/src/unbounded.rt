@@ -25,6 +25,8 @@ fn claims_in<'c>(found: &'c Certificate) -> Claims<'c> {
         raises: found.raises.as_slice(),
         asks: found.asks.as_slice(),
         lowers: found.lowers.as_slice(),
+        filled: found.filled.as_slice(),
+        replaces: found.replaces.as_slice(),
         integers: found.integers,
         kept: found.kept,
     }

@@ -32,7 +32,7 @@ use Rattle.btx_ends.specs.Walking.{Moves, MovesHold}
 use Rattle.btx_ends.specs.Certificates.{TestHolds, TestsHold, CountHolds, CountsHold, top_after, below_after}
 use Rattle.btx_ends.specs.Keeping.{TokensKeep, StepKeeps, BodiesKeep, BodyCounts, said_by, pushed_after, pushed_below}
 
--- what takes so many steps at most takes at most more
+-- what takes at most `less` steps takes at most more
 pub callee_more : (claims : Claims) (less more : ℕ) (f : Callee) → CalleeWithin claims less f → less ≤ more → CalleeWithin claims more f
 callee_more claims less more (callee.BuiltIn built_in.If) h l = absurd h
 callee_more claims less more (callee.BuiltIn built_in.While) h l = absurd h

@@ -34,7 +34,7 @@ use Rattle.btx_machine.specs.language.Meaning.{most_bodies, then_do}
 use Rattle.btx_machine.specs.language.MeaningBySteps.{in_turn, body_if, follow, act}
 use Rattle.btx_ends.specs.Counters.{value_in}
 use Rattle.btx_ends.specs.Keeping.{IfDone}
-use Rattle.btx_ends.specs.Shortening.{text_in, begins, word_of, body_of, IsSkip, NotOf, AndOf, OrOf, filled_test, flag_test, begins_test, until_test}
+use Rattle.btx_ends.specs.Shortening.{text_in, begins, word_of, body_of, IsSkip, NotOf, AndOf, OrOf, filled_test, flag_test, begins_test, until_test, first_test}
 use Rattle.btx_ends.proofs.CounterLemmas.{variable_step, quote_step, integer_step, string_step}
 
 -- ---- outcomes
@@ -221,7 +221,7 @@ on y ys = y ∷ ys
 
 -- ---- `not` and `and`
 
-number_to : (job : Job) (d number : ℕ) (n : ℤ) (bodies loops left : ℕ) (s : State) → body_of job.style number ≡ token.Integer n ∷ []
+pub number_to : (job : Job) (d number : ℕ) (n : ℤ) (bodies loops left : ℕ) (s : State) → body_of job.style number ≡ token.Integer n ∷ []
     → IfDone (LeavesIn (literal.Integer n ∷ s.store.literals) s.store) (act job d (Run (callee.User number)) bodies loops left s)
 number_to job d number n bodies loops left s is =
     call_to job d number (token.Integer n ∷ []) (LeavesIn (literal.Integer n ∷ s.store.literals) s.store) bodies loops left s is
@@ -319,7 +319,7 @@ pub truth_number : (b : Bool) → truth b ≡ literal.Integer (number_of b)
 truth_number true = refl
 truth_number false = refl
 
-number_positive : (b : Bool) → is_positive (number_of b) ≡ b
+pub number_positive : (b : Bool) → is_positive (number_of b) ≡ b
 number_positive true = refl
 number_positive false = refl
 
@@ -398,6 +398,28 @@ begins_to job d test t w is bodies loops left s =
   where
     Q : State → Type 0
     Q t1 = LeavesIn (truth (begins (word_of job.style w) (text_in t s)) ∷ s.store.literals) s.store t1
+
+-- .. and `t #1 #1 substring$ "w" = not`
+pub first_to : (job : Job) (d test t w negation nought one : ℕ) → body_of job.style test ≡ first_test t w negation → NotOf job.style negation nought one
+    → (bodies loops left : ℕ) (s : State)
+    → IfDone (LeavesIn (truth (not (begins (word_of job.style w) (text_in t s))) ∷ s.store.literals) s.store) (act job d (Run (callee.User test)) bodies loops left s)
+first_to job d test t w negation nought one is negates bodies loops left s =
+    call_to job d test _ Q bodies loops left s is
+    (λ e less u q. begins_tokens job t w e (Run (callee.User negation) ∷ []) (bodies + 1) loops less u Q
+    (λ less1 z p.
+    let told = begins (word_of job.style w) (text_in t u) in
+    if_then (LeavesIn (truth (not (is_positive (number_of told))) ∷ u.store.literals) z.store) Q _ _
+    (not_to job e negation nought one negates (number_of told) u.store.literals (bodies + 1) loops less1 z
+    (p.0 ∙ ap (λ (y : Literal). y ∷ u.store.literals) (truth_number told)))
+    (λ less2 v r. (
+      r.0 ∙ ap (λ (b : Bool). truth (not b) ∷ u.store.literals) (number_positive told)
+          ∙ ap (λ (ts : List (List ℕ)). truth (not (begins (word_of job.style w) (unwrap_or (slice_get ts t) []))) ∷ u.store.literals) q.1.1
+          ∙ ap (on (truth (not (begins (word_of job.style w) (text_in t s))))) q.0,
+      (r.1.0 ∙ p.1.0 ∙ q.1.0, r.1.1 ∙ p.1.1 ∙ q.1.1),
+    ))))
+  where
+    Q : State → Type 0
+    Q t1 = LeavesIn (truth (not (begins (word_of job.style w) (text_in t s))) ∷ s.store.literals) s.store t1
 
 -- `v not t empty$ not and`: an integer that is above 0 only where the text isn't empty and v isn't above 0
 pub record Both (v t : ℕ) (s u : State) : Type 0 where

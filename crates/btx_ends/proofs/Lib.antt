@@ -12,7 +12,11 @@ pub mod ShorterLemmas
 pub mod TellLemmas
 pub mod WalkLemmas
 pub mod ClimbLemmas
+pub mod HeldLemmas
 pub mod DescendingLemmas
+pub mod ReplacingLemmas
+pub mod LevelLemmas
+pub mod LoopLemmas
 pub mod RunLemmas
 pub mod StyleLemmas
 pub mod CodeLemmas

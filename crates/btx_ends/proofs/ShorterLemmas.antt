@@ -101,7 +101,7 @@ set_there (x ∷ xs) zero n l = refl
 set_there (x ∷ xs) (suc v) n l = set_there xs v n (omega (arith, l))
 
 -- .. and one that isn't stays empty
-put_short : (xs : List (List ℕ)) (i : ℕ) (z : List ℕ) → length (unwrap_or (slice_get (slice_set xs i z) i) []) ≤ length z
+pub put_short : (xs : List (List ℕ)) (i : ℕ) (z : List ℕ) → length (unwrap_or (slice_get (slice_set xs i z) i) []) ≤ length z
 put_short [] i z = omega arith
 put_short (x ∷ xs) zero z = omega arith
 put_short (x ∷ xs) (suc i) z = put_short xs i z

@@ -36,11 +36,12 @@ use Rattle.btx_machine.specs.refinement.Items.{outcome_of_read, read_lines}
 use Rattle.btx_ends.specs.Ends.{EndsWithin, IsOf, bound_of, first_state, ReportsNoStop}
 use Rattle.btx_ends.specs.Counters.{above_zero}
 use Rattle.btx_ends.specs.Costs.{Ended}
-use Rattle.btx_ends.specs.Certificates.{Claims, CalleeWithin, BodyWithin, BodiesWithin, OwnWithin, DefaultWithin, TestsHold, CountsHold, TextsHold, WalksHold, ClimbsHold, DescendingHolds, FirstUnclaimed, ItemWithin}
+use Rattle.btx_ends.specs.Certificates.{Claims, CalleeWithin, BodyWithin, BodiesWithin, OwnWithin, DefaultWithin, TestsHold, CountsHold, TextsHold, WalksHold, ClimbsHold, DescendingHolds, ReplacingHolds, FirstUnclaimed, ItemWithin}
 use Rattle.btx_ends.specs.Certificates.{ItemsWithin, ClaimsEnd}
 use Rattle.btx_ends.proofs.EndLemmas.{then_ends, at_most}
 use Rattle.btx_ends.proofs.FineLemmas.{Fine, FineIn, value_of, text_of, put_value, length-slice_set}
-use Rattle.btx_ends.proofs.RunLemmas.{level, call_within}
+use Rattle.btx_ends.proofs.LevelLemmas.{call_within}
+use Rattle.btx_ends.proofs.RunLemmas.{level}
 
 -- ---- arithmetic
 
@@ -122,7 +123,7 @@ first_fine claims job first there = (
 module _ (style : Style) (allowed : List ℕ) (claims : Claims) (bodies_hold : BodiesWithin claims style) (own_hold : OwnWithin claims allowed)
     (default_holds : DefaultWithin claims style) (tests_hold : TestsHold claims.tests style) (counts_hold : CountsHold claims.counts style)
     (texts_hold : TextsHold claims style) (walks_hold : WalksHold claims style) (climbs_hold : ClimbsHold claims style)
-    (descending_holds : DescendingHolds claims style) (job : Job) (of : IsOf style allowed claims.kept job) where
+    (descending_holds : DescendingHolds claims style) (replacing_holds : ReplacingHolds claims style) (job : Job) (of : IsOf style allowed claims.kept job) where
   bodies_of : (number : ℕ) → BodyWithin claims (slice_index_or job.style.bodies number []) (slice_index_or claims.costs number 0)
   bodies_of = subst (λ (a : Style). BodiesWithin claims a) (sym of.same) bodies_hold
 
@@ -144,6 +145,9 @@ module _ (style : Style) (allowed : List ℕ) (claims : Claims) (bodies_hold : B
   descending_of : DescendingHolds claims job.style
   descending_of = subst (λ (a : Style). DescendingHolds claims a) (sym of.same) descending_holds
 
+  replacing_of : ReplacingHolds claims job.style
+  replacing_of = subst (λ (a : Style). ReplacingHolds claims a) (sym of.same) replacing_holds
+
   runner_holds : (own : Option ℕ) → ((number : ℕ) → own ≡ Some number → CalleeWithin claims claims.types (callee.User number))
       → (number : ℕ) → runner_of job own ≡ Some number → CalleeWithin claims claims.types (callee.User number)
   runner_holds None f number e = default_holds number (ap (λ (a : Style). type_of a (codes "default.type")) (sym of.same) ∙ e)
@@ -156,8 +160,8 @@ module _ (style : Style) (allowed : List ℕ) (claims : Claims) (bodies_hold : B
       → Ended cost (Fine claims) left (meaning job (Run f) 0 0 left s)
   unfolding meaning
   call_ends f cost w left s h l =
-      call_within job claims bodies_of types_of tests_of counts_of texts_of walks_of climbs_of descending_of of.keeps (suc left)
-      (level job claims bodies_of types_of tests_of counts_of texts_of walks_of climbs_of descending_of of.keeps (suc left)) f cost w (omega (arith, l)) 0 0 left s h l
+      call_within job claims (suc left)
+      (level job claims bodies_of types_of tests_of counts_of texts_of walks_of climbs_of descending_of replacing_of of.keeps (suc left)) f cost w (omega (arith, l)) 0 0 left s h l
 
   visit_ends : (command : Command) (f : Callee) (cost : ℕ) → CalleeWithin claims cost f → (entry : Option ℕ) (left : ℕ) (s : State) → Fine claims s → cost ≤ left
       → Ended cost (Fine claims) left (visit job command f entry left s)
@@ -225,7 +229,7 @@ ends_within P bound budget (Limit kind s left) h = h
 pub claims_end : ClaimsEnd
 claims_end style allowed claims once each functions loops items_hold job of counts budget l =
     ends_within (Fine claims) (bound_of once each job) budget _
-    (items_end style allowed claims functions.0 functions.1.0 functions.1.1 loops.0 loops.1.0 loops.1.1.1.0 loops.1.1.1.1.0 loops.1.1.1.1.1.0 loops.1.1.1.1.1.1 job of job.style.items [] once each
+    (items_end style allowed claims functions.0 functions.1.0 functions.1.1 loops.0 loops.1.0 loops.1.1.1.0 loops.1.1.1.1.0 loops.1.1.1.1.1.0 loops.1.1.1.1.1.1.0 loops.1.1.1.1.1.1.1 job of job.style.items [] once each
     (subst (λ (a : Style). ItemsWithin claims a.items once each) (sym of.same) items_hold) (omega arith) budget (first_state job counts)
     (first_fine claims job loops.1.1.0
     (subst (λ (a : Style). claims.integers ≤ length a.names.global_integers) (sym of.same) loops.1.1.1.0.1.1.1.1)) l)

@@ -16,7 +16,7 @@ use Rattle.btx_ends.specs.Counters.{value_in}
 use Rattle.btx_ends.specs.Keeping.{IfDone}
 use Rattle.btx_ends.specs.Shortening.{text_in, flag_in, left_of, begins, word_of, body_of, Tells}
 use Rattle.btx_ends.proofs.CounterLemmas.{SameVariables, turn_again}
-use Rattle.btx_ends.proofs.DoneLemmas.{if_weaker, LeavesIn, Both, Until, filled_to, begins_to, until_to, flag_to}
+use Rattle.btx_ends.proofs.DoneLemmas.{if_weaker, LeavesIn, Both, Until, filled_to, begins_to, until_to, first_to, flag_to}
 
 -- the variables are those of `s`, and the loop goes on only where something was left
 abbrev pub Told : Job → ℕ → ℕ → State → State → Type 0
@@ -30,6 +30,11 @@ some_begun : (x w : List ℕ) → 0 < length w → begins w x ≡ true → 0 < l
 some_begun (b ∷ x) w l e = omega arith
 some_begun [] [] l e = absurd (omega (arith, l))
 some_begun [] (c ∷ w) l e = absurd (cc)
+
+some_first : (x w : List ℕ) → length w ≡ 0 → not (begins w x) ≡ true → 0 < length x
+some_first (b ∷ x) w l e = omega arith
+some_first [] [] l e = absurd (cc)
+some_first [] (c ∷ w) l e = absurd (omega (arith, l))
 
 pub again_of : (job : Job) (n : ℤ) (ys : List Literal) (u : State) → u.store.literals ≡ literal.Integer n ∷ ys → (turn_of job u).again ≡ is_positive n
 unfolding turn_of
@@ -54,7 +59,7 @@ tells_to job d test t zero (inr (inl w)) bodies loops left s =
     if_weaker (LeavesIn (truth told ∷ s.store.literals) s.store) (Told job t zero s) _
     (begins_to job d test t w.0 w.1.0 bodies loops left s)
     (λ u q. (q.1, λ e. some_begun (text_in t s) (word_of job.style w.0) w.1.1 (sym (turn_again job told s.store.literals u q.0) ∙ e)))
-tells_to job d test t zero (inr (inr w)) bodies loops left s =
+tells_to job d test t zero (inr (inr (inl w))) bodies loops left s =
     let nay = w.1.1.1.1.0 in
     let join = w.1.1.1.1.1 in
     if_weaker (Until t s) (Told job t zero s) _
@@ -63,6 +68,12 @@ tells_to job d test t zero (inr (inr w)) bodies loops left s =
       q.leaves.1,
       λ e. not_white (text_in t s) (q.text (sym (again_of job q.integer s.store.literals u q.leaves.0) ∙ e)),
     ))
+tells_to job d test t zero (inr (inr (inr w))) bodies loops left s =
+    let nay = w.1.1.1.1 in
+    let told = not (begins (word_of job.style w.0) (text_in t s)) in
+    if_weaker (LeavesIn (truth told ∷ s.store.literals) s.store) (Told job t zero s) _
+    (first_to job d test t w.0 w.1.0 nay.0 nay.1.0 w.1.1.0 nay.1.1 bodies loops left s)
+    (λ u q. (q.1, λ e. some_first (text_in t s) (word_of job.style w.0) w.1.1.1.0 (sym (turn_again job told s.store.literals u q.0) ∙ e)))
 tells_to job d test t (suc v) w bodies loops left s =
     let nay = w.1.1.1.0 in
     let join = w.1.1.1.1 in

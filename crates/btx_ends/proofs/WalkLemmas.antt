@@ -120,7 +120,7 @@ truth_of : (b : Bool) → Truth b
 truth_of true = record { integer = pos 1; is = refl; positive = refl }
 truth_of false = record { integer = pos 0; is = refl; positive = refl }
 
-some_left : (z w : List ℕ) → length w ≡ 0 → not (bytes_eq z w) ≡ true → 0 < length z
+pub some_left : (z w : List ℕ) → length w ≡ 0 → not (bytes_eq z w) ≡ true → 0 < length z
 some_left (b ∷ z) w l e = omega arith
 some_left [] [] l e = absurd (cc)
 some_left [] (c ∷ w) l e = absurd (omega (arith, l))

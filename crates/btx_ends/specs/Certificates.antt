@@ -29,6 +29,8 @@ use Rattle.btx_ends.specs.declared.measures.Limit.TheVariants as limit
 use Rattle.btx_ends.specs.declared.measures.Climb.{Climb}
 use Rattle.btx_ends.specs.Climbing.{TellsBelow, Raises}
 use Rattle.btx_ends.specs.Descending.{Asks, Lowers}
+use Rattle.btx_ends.specs.declared.measures.Replacement.{Replacement}
+use Rattle.btx_ends.specs.Replacing.{TellsTop, text_measure, Replaces}
 
 -- what a certificate claims of a style
 pub record Claims : Type 0 where
@@ -58,6 +60,10 @@ pub record Claims : Type 0 where
   pub asks : List ℕ
   -- of each function, by its number, whether it makes such an integer less; 0 claims nothing
   pub lowers : List ℕ
+  -- of each function, by its number, whether it is the test of a loop over a text on top of the stack; 0 claims nothing
+  pub filled : List ℕ
+  -- of each function, by its number, one more than the number of the replacement that it makes of such a text; 0 claims nothing
+  pub replaces : List ℕ
   -- how many global integer variables there are at least
   pub integers : ℕ
   -- how many bytes a global string variable keeps at most
@@ -175,11 +181,21 @@ LoweredWithin claims most body test =
     (0 < slice_index_or claims.asks test 0) × ((0 < slice_index_or claims.lowers body 0)
     × ((0 < of_test) × ((0 < of_body) × ((2 ^ 31 + 1) * (of_test + of_body) < most))))
 
+-- a loop that puts a shorter text in the place of one on top of the stack takes at most `most` steps: its own step, and for each turn, of which there are two more
+-- than a string variable keeps bytes, those of the test and of the body. After the first turn the text is that of a variable
+abbrev pub ReplacedWithin : Claims → ℕ → ℕ → ℕ → Type 0
+ReplacedWithin claims most body test =
+    let of_test = slice_index_or claims.costs test 0 in
+    let of_body = slice_index_or claims.costs body 0 in
+    (0 < slice_index_or claims.filled test 0) × ((0 < slice_index_or claims.replaces body 0)
+    × ((0 < of_test) × ((0 < of_body) × ((claims.kept + 2) * (of_test + of_body) < most))))
+
 -- a loop of one of these kinds
 abbrev pub TurnsWithin : Claims → ℕ → ℕ → ℕ → Type 0
 TurnsWithin claims most body test =
     CountedWithin claims most body test
-    ⊎ (ShortenedWithin claims most body test ⊎ (WalkedWithin claims most body test ⊎ (ClimbedWithin claims most body test ⊎ LoweredWithin claims most body test)))
+    ⊎ (ShortenedWithin claims most body test ⊎ (WalkedWithin claims most body test ⊎ (ClimbedWithin claims most body test
+    ⊎ (LoweredWithin claims most body test ⊎ ReplacedWithin claims most body test))))
 
 -- .. where its body and its test are known to stand on top of the stack
 abbrev pub LoopWithin : Claims → ℕ → Known → Known → Type 0
@@ -402,6 +418,39 @@ abbrev pub DescendingHolds : Claims → Style → Type 0
 DescendingHolds claims style =
     (kinds : ℕ → Kind) × (KindsHold style kinds × (AsksHold style kinds claims.asks × LowersHold style kinds claims.lowers))
 
+-- a function is the test that it is claimed to be of a loop over a text on top of the stack
+abbrev pub FilledHolds : Style → ℕ → ℕ → Type 0
+FilledHolds style zero number = Unit {0}
+FilledHolds style (suc k) number = TellsTop style (body_of style number)
+
+-- a function puts a shorter text in the place of that one, by what is said of all functions
+abbrev pub ReplacesBy : Style → Replacement → (ℕ → Kind) → (ℕ → Effect) → (ℕ → Effect) → ℕ → Type 0
+ReplacesBy style r kinds texts givens number =
+    KindsHold style kinds × (EffectsHold style (text_measure r.text) kinds texts × (EffectsHold style (text_measure r.given) kinds givens
+    × Replaces style r kinds texts givens (body_of style number)))
+
+-- a function makes the replacement that is claimed
+abbrev pub ReplaceHolds : Style → (ℕ → Replacement) → ℕ → ℕ → Type 0
+ReplaceHolds style replacements zero number = Unit {0}
+ReplaceHolds style replacements (suc k) number =
+    (kinds : ℕ → Kind) × ((texts : ℕ → Effect) × ((givens : ℕ → Effect) × ReplacesBy style (replacements k) kinds texts givens number))
+
+-- .. and so do all
+abbrev pub AllFilled : Style → List ℕ → Type 0
+AllFilled style filled = (number : ℕ) → FilledHolds style (slice_index_or filled number 0) number
+
+abbrev pub AllReplace : Style → (ℕ → Replacement) → List ℕ → Type 0
+AllReplace style replacements replaces = (number : ℕ) → ReplaceHolds style replacements (slice_index_or replaces number 0) number
+
+-- the replacements of a list, by their numbers
+abbrev pub replacements_by : List Replacement → ℕ → Replacement
+replacements_by replacements k = slice_index_or replacements k (record { text = 0; given = 0 })
+
+-- all claims on loops over a text on top of the stack hold
+abbrev pub ReplacingHolds : Claims → Style → Type 0
+ReplacingHolds claims style =
+    (replacements : ℕ → Replacement) × (AllFilled style claims.filled × AllReplace style replacements claims.replaces)
+
 -- nothing is claimed of `entry.max$` and `global.max$`, which don't begin with 0
 abbrev pub FirstUnclaimed : List ℕ → Type 0
 FirstUnclaimed bounds = (slice_index_or bounds 0 0 ≡ 0) × (slice_index_or bounds 1 0 ≡ 0)
@@ -414,7 +463,7 @@ FunctionsWithin claims allowed style = BodiesWithin claims style × (OwnWithin c
 abbrev pub LoopsHold : Claims → Style → Type 0
 LoopsHold claims style =
     TestsHold claims.tests style × (CountsHold claims.counts style × (FirstUnclaimed claims.bounds × (TextsHold claims style
-    × (WalksHold claims style × (ClimbsHold claims style × DescendingHolds claims style)))))
+    × (WalksHold claims style × (ClimbsHold claims style × (DescendingHolds claims style × ReplacingHolds claims style))))))
 
 -- THE LAW: a style of which a certificate's claims hold ends
 abbrev pub ClaimsEnd : Type 0

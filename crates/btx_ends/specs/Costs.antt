@@ -13,7 +13,7 @@ Ended cost goal left (Done s rest) = goal s × (left ≤ rest + cost)
 Ended cost goal left (Stopped s) = ⊥
 Ended cost goal left (Limit kind s rest) = left ≤ rest + cost
 
--- an action ends within `cost` steps from each state of which `from` holds, if so many are left
+-- an action ends within `cost` steps from each state of which `from` holds, if these are left
 abbrev pub EndsIn : ℕ → (State → Type 0) → Action → (State → Type 0) → Type 0
 EndsIn cost from go goal = (bodies loops left : ℕ) (s : State) → from s → cost ≤ left → Ended cost goal left (go bodies loops left s)
 

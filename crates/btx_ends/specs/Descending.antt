@@ -1,11 +1,11 @@
 -- Loops that count an integer down that stands on top of the stack, and in no variable. Read off the tokens, by what is known of the eight literals on top.
-use Rattle.std.specs.Prelude.{◌≡◌, ℕ, zero, suc, ℤ, pos, negsuc, List, [], ◌∷◌, ◌++◌, Bool, true, false, ◌&&◌, if◌then◌else◌}
+use Rattle.std.specs.Prelude.{◌≡◌, ℕ, zero, suc, ℤ, pos, negsuc, List, [], ◌∷◌, ◌++◌, Bool, true, false, ◌&&◌, ◌||◌, if◌then◌else◌}
 use Rattle.btx_bst.specs.declared.built_in.BuiltIn.{BuiltIn}
 use Rattle.btx_bst.specs.declared.built_in.BuiltIn.TheVariants as built_in
 use Rattle.btx_bst.specs.declared.callee.Callee.TheVariants as callee
 use Rattle.btx_bst.specs.declared.token.Token.{Token}
 use Rattle.btx_bst.specs.declared.token.Token.TheVariants as token
-use Rattle.btx_bst.specs.declared.token.Token.TheVariants.{Run}
+use Rattle.btx_bst.specs.declared.token.Token.TheVariants.{Quote, Run}
 use Rattle.btx_ends.specs.declared.held.Held.{Held}
 use Rattle.btx_ends.specs.declared.held.Held.TheVariants as held
 use Rattle.btx_ends.specs.declared.held.Pile.{Pile}
@@ -39,6 +39,7 @@ only_same = push held.Same nothing_held
 abbrev pub is_integer : Held → Bool
 is_integer held.Number = true
 is_integer held.Zero = true
+is_integer held.Positive = true
 is_integer held.Same = true
 is_integer held.Told = true
 is_integer it = false
@@ -47,7 +48,28 @@ is_integer it = false
 abbrev pub is_there : Held → Bool
 is_there held.Anything = false
 is_there held.Low = false
+is_there held.Late = false
+is_there held.Apart = false
 is_there it = true
+
+-- if it's an integer, this is known of it; there may be none
+abbrev pub is_bound : Held → Bool
+is_bound held.Low = true
+is_bound held.Late = true
+is_bound held.Apart = true
+is_bound it = false
+
+-- it is a string
+abbrev pub is_text : Held → Bool
+is_text held.Text = true
+is_text held.Whole = true
+is_text it = false
+
+-- if it's an integer, no part of a text from that place on is the whole text
+abbrev pub is_apart : Held → Bool
+is_apart held.Late = true
+is_apart held.Apart = true
+is_apart it = false
 
 -- if it's an integer, it is no greater than that of the loop
 abbrev pub is_low : Held → Bool
@@ -65,7 +87,13 @@ is_told it = false
 
 abbrev pub number_held : ℤ → Held
 number_held (pos zero) = held.Zero
-number_held n = held.Number
+number_held (pos (suc n)) = held.Positive
+number_held (negsuc n) = held.Number
+
+-- .. after `+`, whose sum is 0 where it doesn't fit
+abbrev pub sum_held : Held → Held → Held
+sum_held held.Positive held.Late = held.Apart
+sum_held top below = held.Number
 
 -- .. after `>`
 abbrev pub greater_held : Held → Held → Held
@@ -78,8 +106,7 @@ joined_held below = if is_told below then held.Told else held.Number
 
 -- .. after `swap$`, which leaves a literal where it is if there is none below it
 abbrev pub raised_held : Held → Held → Held
-raised_held held.Text held.Low = held.Low
-raised_held top below = if is_there below then below else held.Anything
+raised_held top below = if is_there below || (is_text top && is_bound below) then below else held.Anything
 
 abbrev pub lowered_held : Held → Held → Held
 lowered_held top below = if is_there below then top else if is_low top then held.Low else held.Anything
@@ -87,18 +114,16 @@ lowered_held top below = if is_there below then top else if is_low top then held
 abbrev pub swapped_held : Pile → Pile
 swapped_held p = push (raised_held p.first p.second) (push (lowered_held p.first p.second) (popped_two p))
 
--- .. after `duplicate$`
-abbrev pub doubled_held : Pile → Pile
-doubled_held p = if is_there p.first then push p.first p else nothing_held
-
--- .. after a built-in function: one literal in place of its operands, whatever they are
+-- .. after a built-in function: what it pushes stands in place of its operands, whatever these are
 abbrev pub built_in_held : Pile → BuiltIn → Pile
-built_in_held p built_in.Duplicate = doubled_held p
+built_in_held p built_in.Duplicate = push p.first p
 built_in_held p built_in.Swap = swapped_held p
 built_in_held p built_in.Substring = push held.Text (popped (popped_two p))
 built_in_held p built_in.Concatenate = push held.Text (popped_two p)
 built_in_held p built_in.Equals = push held.Number (popped_two p)
 built_in_held p built_in.Greater = push (greater_held p.first p.second) (popped_two p)
+built_in_held p built_in.Plus = push (sum_held p.first p.second) (popped_two p)
+built_in_held p built_in.Assign = popped_two p
 built_in_held p f = nothing_held
 
 -- .. after `not`, `or` and `and`
@@ -110,6 +135,7 @@ called_held kind.And p =
 called_held kind.Other p = nothing_held
 
 abbrev pub pile_after : (ℕ → Kind) → Pile → Token → Pile
+pile_after kinds p (Quote f) = push held.Anything p
 pile_after kinds p (token.Integer n) = push (number_held n) p
 pile_after kinds p (token.Text w) = push held.Text p
 pile_after kinds p (Run (callee.GlobalInteger v)) = push held.Number p

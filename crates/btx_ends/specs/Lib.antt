@@ -6,5 +6,6 @@ pub mod Shortening
 pub mod Walking
 pub mod Climbing
 pub mod Descending
+pub mod Replacing
 pub mod Certificates
 pub mod Views

@@ -118,6 +118,10 @@ abbrev pub until_test : ℕ → ℕ → ℕ → ℕ → List Token
 until_test t word negation conjunction =
     filled_test t negation ++ (begins_test t word ++ Run (callee.User negation) ∷ Run (callee.User conjunction) ∷ [])
 
+-- .. `t #1 #1 substring$ "w" = not`
+abbrev pub first_test : ℕ → ℕ → ℕ → List Token
+first_test t word negation = begins_test t word ++ Run (callee.User negation) ∷ []
+
 -- a body is a test that is true only where the text isn't empty
 abbrev pub TellsFilled : Style → ℕ → List Token → Type 0
 TellsFilled style t body = (negation : ℕ) × ((body ≡ filled_test t negation) × IsNot style negation)
@@ -129,6 +133,10 @@ abbrev pub TellsUntil : Style → ℕ → List Token → Type 0
 TellsUntil style t body =
     (word : ℕ) × ((negation : ℕ) × ((conjunction : ℕ) × ((body ≡ until_test t word negation conjunction) × (IsNot style negation × IsAnd style conjunction))))
 
+abbrev pub TellsFirst : Style → ℕ → List Token → Type 0
+TellsFirst style t body =
+    (word : ℕ) × ((negation : ℕ) × ((body ≡ first_test t word negation) × ((length (word_of style word) ≡ 0) × IsNot style negation)))
+
 -- .. and the flag isn't set
 abbrev pub TellsBoth : Style → ℕ → ℕ → List Token → Type 0
 TellsBoth style v t body =
@@ -136,7 +144,7 @@ TellsBoth style v t body =
 
 -- a body is a test that is true only where the loop may still turn
 abbrev pub Tells : Style → ℕ → ℕ → List Token → Type 0
-Tells style t zero body = TellsFilled style t body ⊎ (TellsBegun style t body ⊎ TellsUntil style t body)
+Tells style t zero body = TellsFilled style t body ⊎ (TellsBegun style t body ⊎ (TellsUntil style t body ⊎ TellsFirst style t body))
 Tells style t (suc v) body = TellsBoth style v t body
 
 -- ---- what is known of literals

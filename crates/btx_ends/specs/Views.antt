@@ -17,6 +17,8 @@ claims_of given = record {
   raises = given.raises.now;
   asks = given.asks.now;
   lowers = given.lowers.now;
+  filled = given.filled.now;
+  replaces = given.replaces.now;
   integers = given.integers;
   kept = given.kept;
 }

@@ -13,7 +13,8 @@ use crate::costs::{Bound, body_cost, items_cost};
 use crate::descending::descending_holds;
 use crate::keeping::{functions_keep, is_counting, is_test};
 use crate::kinds::kinds_hold;
-use crate::measures::{Climb, Effect, Kind, Measure, Walk};
+use crate::measures::{Climb, Effect, Kind, Measure, Replacement, Walk};
+use crate::replacements::replacing_holds;
 use crate::search::proposed;
 use crate::shortening::{effects_hold, said_of};
 use crate::telling::tells;
@@ -72,6 +73,16 @@ pub struct Certificate {
     pub climb_places: Vec<Vec<Effect>>,
     /// Of each climb, what each function does to its text and its size.
     pub climb_sizes: Vec<Vec<Effect>>,
+    /// What loops put a shorter text in the place of one on top of the stack.
+    pub replacements: Vec<Replacement>,
+    /// Of each function, by its number, whether it is the test of a loop over a text on top of the stack; 0 claims nothing.
+    pub filled: Vec<u32>,
+    /// Of each function, by its number, one more than the number of the replacement that it makes of such a text; 0 claims nothing.
+    pub replaces: Vec<u32>,
+    /// Of each replacement, what each function does to the text that is kept while it is cut.
+    pub texts: Vec<Vec<Effect>>,
+    /// Of each replacement, what each function does to the text that is given.
+    pub givens: Vec<Vec<Effect>>,
     /// How many global integer variables there are at least.
     pub integers: u32,
     /// How many bytes a global string variable keeps at most.
@@ -97,6 +108,8 @@ impl Certificate {
             raises: self.raises.as_slice(),
             asks: self.asks.as_slice(),
             lowers: self.lowers.as_slice(),
+            filled: self.filled.as_slice(),
+            replaces: self.replaces.as_slice(),
             integers: self.integers,
             kept: self.kept,
         }
@@ -328,7 +341,7 @@ fn flags_hold(measures: &[Measure], integers: u32) -> bool
     true
 }
 
-// Answers whether a style has so many global integer variables.
+// Answers whether a style has at least this number of global integer variables.
 fn has_integers(style: &Style, count: u32) -> bool
     ensures { IsTrue result → count ≤ length style.now.names.global_integers }
 {
@@ -377,6 +390,7 @@ fn loops_hold(style: &Style, claims: Claims<'_>, certificate: &Certificate) -> b
         && walks_hold(style, claims, certificate)
         && climbs_hold(style, claims, certificate)
         && descending_holds(style, claims, certificate.kinds.as_slice())
+        && replacing_holds(style, claims, certificate)
 }
 
 /// Judges a certificate: answers the bound of a style's runs, for entries of the types that are allowed or that the style doesn't know, where global string

@@ -30,6 +30,10 @@ pub struct Claims<'c> {
     pub asks: &'c [u32],
     /// Of each function, by its number, whether it makes such an integer less; 0 claims nothing.
     pub lowers: &'c [u32],
+    /// Of each function, by its number, whether it is the test of a loop over a text on top of the stack; 0 claims nothing.
+    pub filled: &'c [u32],
+    /// Of each function, by its number, one more than the number of the replacement that it makes of such a text; 0 claims nothing.
+    pub replaces: &'c [u32],
     /// How many global integer variables there are at least.
     pub integers: u32,
     /// How many bytes a global string variable keeps at most.

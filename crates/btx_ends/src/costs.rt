@@ -171,19 +171,49 @@ fn lowered_cost(claims: Claims<'_>, body: u32, test: u32) -> Option<u64>
     all.checked_add(1)
 }
 
-// .. that raise a place up to a limit, or count such an integer down
+// .. whose turns put a shorter text in the place of one on top of the stack: its own step, and those of each turn.
+fn replaced_cost(claims: Claims<'_>, body: u32, test: u32) -> Option<u64>
+    ensures { IfSome result (λ most. within.ReplacedWithin (claims_of claims.entry) most body test) }
+{
+    if number_for(claims.filled, test as usize) == 0
+        || number_for(claims.replaces, body as usize) == 0
+    {
+        return None;
+    }
+    let of_test = claim_of(claims.costs, test as usize);
+    let of_body = claim_of(claims.costs, body as usize);
+    if of_test == 0 || of_body == 0 {
+        return None;
+    }
+    let turn = of_test.checked_add(of_body)?;
+    let turns = claims.kept as u64 + 2;
+    let all = turns.checked_mul(turn)?;
+    all.checked_add(1)
+}
+
+// .. that count such an integer down, or shorten such a text
+fn stack_cost(claims: Claims<'_>, body: u32, test: u32) -> Option<u64>
+    ensures { IfSome result (λ most. within.LoweredWithin (claims_of claims.entry) most body test ⊎ within.ReplacedWithin (claims_of claims.entry) most body test) }
+{
+    match lowered_cost(claims, body, test) {
+        Some(cost) => Some(cost),
+        None => replaced_cost(claims, body, test),
+    }
+}
+
+// .. or raise a place up to a limit
 fn integer_cost(claims: Claims<'_>, body: u32, test: u32) -> Option<u64>
-    ensures { IfSome result (λ most. within.ClimbedWithin (claims_of claims.entry) most body test ⊎ within.LoweredWithin (claims_of claims.entry) most body test) }
+    ensures { IfSome result (λ most. within.ClimbedWithin (claims_of claims.entry) most body test ⊎ (within.LoweredWithin (claims_of claims.entry) most body test ⊎ within.ReplacedWithin (claims_of claims.entry) most body test)) }
 {
     match climbed_cost(claims, body, test) {
         Some(cost) => Some(cost),
-        None => lowered_cost(claims, body, test),
+        None => stack_cost(claims, body, test),
     }
 }
 
 // .. or move a place on along a text
 fn place_cost(claims: Claims<'_>, body: u32, test: u32) -> Option<u64>
-    ensures { IfSome result (λ most. within.WalkedWithin (claims_of claims.entry) most body test ⊎ (within.ClimbedWithin (claims_of claims.entry) most body test ⊎ within.LoweredWithin (claims_of claims.entry) most body test)) }
+    ensures { IfSome result (λ most. within.WalkedWithin (claims_of claims.entry) most body test ⊎ (within.ClimbedWithin (claims_of claims.entry) most body test ⊎ (within.LoweredWithin (claims_of claims.entry) most body test ⊎ within.ReplacedWithin (claims_of claims.entry) most body test))) }
 {
     match walked_cost(claims, body, test) {
         Some(cost) => Some(cost),
@@ -193,7 +223,7 @@ fn place_cost(claims: Claims<'_>, body: u32, test: u32) -> Option<u64>
 
 // .. or make a text shorter
 fn text_cost(claims: Claims<'_>, body: u32, test: u32) -> Option<u64>
-    ensures { IfSome result (λ most. within.ShortenedWithin (claims_of claims.entry) most body test ⊎ (within.WalkedWithin (claims_of claims.entry) most body test ⊎ (within.ClimbedWithin (claims_of claims.entry) most body test ⊎ within.LoweredWithin (claims_of claims.entry) most body test))) }
+    ensures { IfSome result (λ most. within.ShortenedWithin (claims_of claims.entry) most body test ⊎ (within.WalkedWithin (claims_of claims.entry) most body test ⊎ (within.ClimbedWithin (claims_of claims.entry) most body test ⊎ (within.LoweredWithin (claims_of claims.entry) most body test ⊎ within.ReplacedWithin (claims_of claims.entry) most body test)))) }
 {
     match shortened_cost(claims, body, test) {
         Some(cost) => Some(cost),

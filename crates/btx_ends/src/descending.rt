@@ -10,7 +10,7 @@ use crate::claims::Claims;
 use crate::held::Held;
 use crate::kinds::kinds_hold;
 use crate::measures::Kind;
-use crate::piles::{is_low, is_told, pile_through};
+use crate::piles::{is_low, is_told, only_same, pile_through};
 use crate::tokens::{is_integer, is_minus};
 use btx_bst::{Style, Token};
 use std::alloc::{AllocError, Global};
@@ -29,7 +29,7 @@ fn is_same(it: Held) -> bool
 pub(crate) fn asks(kinds: &[Kind], body: &[Token]) -> bool
     ensures { IsTrue result → descending.Asks (kinds_by kinds.now) body.now }
 {
-    let pile = pile_through(kinds, body);
+    let pile = pile_through(kinds, only_same(), body);
     is_told(pile.first) && is_same(pile.second)
 }
 
@@ -49,7 +49,7 @@ pub(crate) fn lowers(kinds: &[Kind], body: &[Token]) -> bool
         return false;
     }
     let (others, last) = body.split_at(body.len() - 2);
-    is_take_one(last) && is_low(pile_through(kinds, others).first)
+    is_take_one(last) && is_low(pile_through(kinds, only_same(), others).first)
 }
 
 // Answers whether a function is the test that it is claimed to be.

@@ -43,6 +43,15 @@ pub struct Climb {
     pub limit: Limit,
 }
 
+/// A loop puts a shorter text in the place of one on top of the stack.
+#[derive(Clone, Copy, PartialEq, Eq)]
+pub struct Replacement {
+    /// The number of the global string variable that the text is kept in while it is cut.
+    pub text: u32,
+    /// The number of the global string variable whose text each turn pushes at its end.
+    pub given: u32,
+}
+
 /// What a call of a function does to the text and the flag.
 #[derive(Clone, Copy, PartialEq, Eq)]
 pub enum Effect {

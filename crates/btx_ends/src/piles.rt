@@ -1,7 +1,8 @@
-//! What is known of the literals on top of the stack after a token, where a loop counts an integer down that stands there.
+//! What is known of the literals on top of the stack after a token, where a loop counts an integer down that stands there, or shortens a text that does.
 ghost use Rattle.std.specs.Prelude.{◌≡◌};
 ghost use Rattle.btx_ends.specs.Shortening as shortening;
 ghost use Rattle.btx_ends.specs.Descending as descending;
+ghost use Rattle.btx_ends.specs.Replacing as replacing;
 
 use crate::held::{Held, Pile};
 use crate::measures::Kind;
@@ -70,13 +71,28 @@ pub(crate) fn only_same() -> Pile
     push(Held::Same, nothing_held())
 }
 
-// Answers whether a literal is known to be an integer.
-fn is_integer(it: Held) -> bool
+/// .. an integer that is at least 2, if there is one
+pub(crate) fn only_late() -> Pile
+    ensures { result ≡ replacing.only_late }
+{
+    push(Held::Late, nothing_held())
+}
+
+/// .. the text of the loop below a literal
+pub(crate) fn over_whole() -> Pile
+    ensures { result ≡ replacing.over_whole }
+{
+    push(Held::Anything, push(Held::Whole, nothing_held()))
+}
+
+/// Answers whether a literal is known to be an integer.
+pub(crate) fn is_integer(it: Held) -> bool
     ensures { result ≡ descending.is_integer it }
 {
     match it {
         Held::Number => true,
         Held::Zero => true,
+        Held::Positive => true,
         Held::Same => true,
         Held::Told => true,
         _ => false,
@@ -90,7 +106,43 @@ fn is_there(it: Held) -> bool
     match it {
         Held::Anything => false,
         Held::Low => false,
+        Held::Late => false,
+        Held::Apart => false,
         _ => true,
+    }
+}
+
+// .. to be of this kind if it is an integer, where there may be none
+fn is_bound(it: Held) -> bool
+    ensures { result ≡ descending.is_bound it }
+{
+    match it {
+        Held::Low => true,
+        Held::Late => true,
+        Held::Apart => true,
+        _ => false,
+    }
+}
+
+// .. to be a string
+fn is_text(it: Held) -> bool
+    ensures { result ≡ descending.is_text it }
+{
+    match it {
+        Held::Text => true,
+        Held::Whole => true,
+        _ => false,
+    }
+}
+
+/// .. to be no place from which on a part is the whole text
+pub(crate) fn is_apart(it: Held) -> bool
+    ensures { result ≡ descending.is_apart it }
+{
+    match it {
+        Held::Late => true,
+        Held::Apart => true,
+        _ => false,
     }
 }
 
@@ -120,7 +172,23 @@ pub(crate) fn is_told(it: Held) -> bool
 fn number_held(n: i32) -> Held
     ensures { result ≡ descending.number_held n }
 {
-    if n == 0 { Held::Zero } else { Held::Number }
+    if n == 0 {
+        Held::Zero
+    } else if n > 0 {
+        Held::Positive
+    } else {
+        Held::Number
+    }
+}
+
+// .. after `+`, whose sum is 0 where it doesn't fit
+fn sum_held(top: Held, below: Held) -> Held
+    ensures { result ≡ descending.sum_held top below }
+{
+    match (top, below) {
+        (Held::Positive, Held::Late) => Held::Apart,
+        _ => Held::Number,
+    }
 }
 
 // .. after `>`
@@ -148,15 +216,10 @@ fn joined_held(below: Held) -> Held
 fn raised_held(top: Held, below: Held) -> Held
     ensures { result ≡ descending.raised_held top below }
 {
-    match (top, below) {
-        (Held::Text, Held::Low) => Held::Low,
-        _ => {
-            if is_there(below) {
-                below
-            } else {
-                Held::Anything
-            }
-        }
+    if is_there(below) || (is_text(top) && is_bound(below)) {
+        below
+    } else {
+        Held::Anything
     }
 }
 
@@ -182,28 +245,19 @@ fn swapped_held(pile: Pile) -> Pile
     push(raised, push(lowered, popped_two(pile)))
 }
 
-// .. after `duplicate$`
-fn doubled_held(pile: Pile) -> Pile
-    ensures { result ≡ descending.doubled_held pile }
-{
-    if is_there(pile.first) {
-        push(pile.first, pile)
-    } else {
-        nothing_held()
-    }
-}
-
 // .. after a built-in function
 fn built_in_held(pile: Pile, f: BuiltIn) -> Pile
     ensures { result ≡ descending.built_in_held pile f }
 {
     match f {
-        BuiltIn::Duplicate => doubled_held(pile),
+        BuiltIn::Duplicate => push(pile.first, pile),
         BuiltIn::Swap => swapped_held(pile),
         BuiltIn::Substring => push(Held::Text, popped(popped_two(pile))),
         BuiltIn::Concatenate => push(Held::Text, popped_two(pile)),
         BuiltIn::Equals => push(Held::Number, popped_two(pile)),
         BuiltIn::Greater => push(greater_held(pile.first, pile.second), popped_two(pile)),
+        BuiltIn::Plus => push(sum_held(pile.first, pile.second), popped_two(pile)),
+        BuiltIn::Assign => popped_two(pile),
         _ => nothing_held(),
     }
 }
@@ -243,7 +297,7 @@ pub(crate) fn pile_after(kinds: &[Kind], pile: Pile, token: Token) -> Pile
     ensures { result ≡ descending.pile_after (shortening.kinds_by kinds.now) pile token }
 {
     match token {
-        Token::Quote(_) => nothing_held(),
+        Token::Quote(_) => push(Held::Anything, pile),
         Token::Integer(n) => push(number_held(n), pile),
         Token::Text(_) => push(Held::Text, pile),
         Token::Run(Callee::GlobalInteger(_)) => push(Held::Number, pile),
@@ -254,11 +308,11 @@ pub(crate) fn pile_after(kinds: &[Kind], pile: Pile, token: Token) -> Pile
     }
 }
 
-/// .. after tokens one after another
-pub(crate) fn pile_through(kinds: &[Kind], xs: &[Token]) -> Pile
-    ensures { result ≡ descending.pile_through (shortening.kinds_by kinds.now) descending.only_same xs.now }
+/// .. after tokens one after another, where this was known before them
+pub(crate) fn pile_through(kinds: &[Kind], start: Pile, xs: &[Token]) -> Pile
+    ensures { result ≡ descending.pile_through (shortening.kinds_by kinds.now) start xs.now }
 {
-    let mut pile = only_same();
+    let mut pile = start;
     for token in xs {
         pile = pile_after(kinds, pile, *token);
     }

@@ -10,6 +10,7 @@ use crate::known::Known;
 use crate::literals::{below_after, top_after};
 use crate::measures::{Effect, Kind, Measure};
 use crate::reaching::reached;
+use crate::replacement_search::{filled_of, replacements_of, replaces_of, text_rows};
 use crate::shortening::tokens_through;
 use crate::telling::{begins_word, tells};
 use crate::walk_search::{movers_of, moves_of, parts_of, rows_by, walks_of};
@@ -72,6 +73,17 @@ pub(crate) fn proposed_with(
     )?;
     let asks = asks_of(alloc, style, &kinds)?;
     let lowers = lowers_of(alloc, style, &kinds)?;
+    let replacements = replacements_of(alloc, style, &loops)?;
+    let texts = text_rows(alloc, style, &kinds, &replacements, false)?;
+    let givens = text_rows(alloc, style, &kinds, &replacements, true)?;
+    let filled = filled_of(alloc, style)?;
+    let replaces = replaces_of(
+        alloc,
+        style,
+        &loops,
+        &replacements,
+        (&kinds, &texts, &givens),
+    )?;
     let mut found = Certificate {
         costs: Vec::new(alloc),
         types: 0,
@@ -97,6 +109,11 @@ pub(crate) fn proposed_with(
         raises,
         climb_places,
         climb_sizes,
+        replacements,
+        filled,
+        replaces,
+        texts,
+        givens,
         integers: count_of(style.global_integers()),
         kept,
     };
@@ -167,6 +184,8 @@ fn raise_in(body: &[Token], bounds: &mut [u64], kept: u32, may_raise: bool) {
             raises: &[],
             asks: &[],
             lowers: &[],
+            filled: &[],
+            replaces: &[],
             integers: 0,
             kept,
         };
@@ -385,10 +404,10 @@ fn kind_for(style: &Style, number: u32) -> Kind {
     }
 }
 
-// The measure by which a body seems to tell whether a loop may go on: by `t empty$ not`, `v not t empty$ not and`, `t #1 #1 substring$ "w" =`, or by the first of
-// these and the contrary of the last.
+// The measure by which a body seems to tell whether a loop may go on: by `t empty$ not`, `v not t empty$ not and`, `t #1 #1 substring$ "w" =`, the contrary of
+// that, or by the first of these and the contrary of the third.
 fn measure_told(body: &[Token]) -> Option<Measure> {
-    if body.len() != 3 && body.len() != 6 && body.len() != 11 {
+    if body.len() != 3 && body.len() != 6 && body.len() != 7 && body.len() != 11 {
         return None;
     }
     match (body[0], body[2]) {

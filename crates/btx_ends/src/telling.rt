@@ -129,6 +129,43 @@ fn tells_until(style: &Style, t: u32, body: &[Token]) -> bool
     }
 }
 
+// Answers whether a body is `t #1 #1 substring$ "w" = not`.
+fn is_first_of(t: u32, word: u32, negation: u32, body: &[Token]) -> bool
+    ensures { IsTrue result → body.now ≡ shortening.first_test t word negation }
+{
+    if body.len() != 7 {
+        return false;
+    }
+    let (begins, calls) = body.split_at(6);
+    is_begins_of(t, word, begins) && is_one_call(negation, calls)
+}
+
+// .. this call alone
+#[tactic(auto, using(crate::proofs::CodeLemmas::one))]
+fn is_one_call(number: u32, calls: &[Token]) -> bool
+    ensures { IsTrue result → calls.now ≡ tokens.Run (callee.User number) ∷ [] }
+{
+    calls.len() == 1 && is_call(number, calls[0])
+}
+
+// .. by whether it has a first byte
+fn tells_first(style: &Style, t: u32, body: &[Token]) -> bool
+    ensures { IsTrue result → shortening.TellsFirst style.now t body.now }
+{
+    if body.len() != 7 {
+        return false;
+    }
+    let negation = called_by(body[6]);
+    match pushed_text(body[4]) {
+        None => false,
+        Some(word) => {
+            is_first_of(t, word, negation, body)
+                && style.text(word).is_empty()
+                && is_not(style, negation)
+        }
+    }
+}
+
 // .. and the flag isn't set
 fn tells_both(style: &Style, v: u32, t: u32, body: &[Token]) -> bool
     ensures { IsTrue result → shortening.TellsBoth style.now v t body.now }
@@ -153,7 +190,10 @@ fn tells_text(style: &Style, t: u32, body: &[Token]) -> bool
     if tells_begun(style, t, body) {
         return true;
     }
-    tells_until(style, t, body)
+    if tells_until(style, t, body) {
+        return true;
+    }
+    tells_first(style, t, body)
 }
 
 /// Answers whether a body is a test that is true only where a loop of this measure may still turn.

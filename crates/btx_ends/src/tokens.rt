@@ -62,6 +62,32 @@ pub(crate) fn is_variable(v: u32, token: Token) -> bool
     }
 }
 
+/// Answers the number of a global string variable that a token pushes itself, if it does; else 0.
+pub(crate) fn quoted_text(token: Token) -> u32 {
+    match token {
+        Token::Quote(Callee::GlobalString(t)) => t,
+        _ => 0,
+    }
+}
+
+/// Answers the number of the function of the style that a token quotes, if it does; else 0.
+pub(crate) fn quoted_by(token: Token) -> u32 {
+    match token {
+        Token::Quote(Callee::User(n)) => n,
+        _ => 0,
+    }
+}
+
+/// Answers whether a token pushes the global string variable t itself.
+pub(crate) fn is_text_variable(t: u32, token: Token) -> bool
+    ensures { IsTrue result → token ≡ tokens.Quote (callee.GlobalString t) }
+{
+    match token {
+        Token::Quote(Callee::GlobalString(i)) => i == t,
+        _ => false,
+    }
+}
+
 /// Answers whether a token is this integer.
 pub(crate) fn is_integer(n: i32, token: Token) -> bool
     ensures { IsTrue result → token ≡ tokens.Integer n }
@@ -229,6 +255,26 @@ pub(crate) fn is_pop(token: Token) -> bool
 {
     match token {
         Token::Run(Callee::BuiltIn(BuiltIn::Pop)) => true,
+        _ => false,
+    }
+}
+
+/// Answers whether a token is `duplicate$`.
+pub(crate) fn is_duplicate(token: Token) -> bool
+    ensures { IsTrue result → token ≡ tokens.Run (callee.BuiltIn built_in.Duplicate) }
+{
+    match token {
+        Token::Run(Callee::BuiltIn(BuiltIn::Duplicate)) => true,
+        _ => false,
+    }
+}
+
+/// Answers whether a token is `swap$`.
+pub(crate) fn is_swap(token: Token) -> bool
+    ensures { IsTrue result → token ≡ tokens.Run (callee.BuiltIn built_in.Swap) }
+{
+    match token {
+        Token::Run(Callee::BuiltIn(BuiltIn::Swap)) => true,
         _ => false,
     }
 }

@@ -92,8 +92,8 @@ pub(crate) fn rows_by(
     Ok(rows)
 }
 
-// .. of one
-fn row_by(
+/// What each function does, by its number, to what a measure looks at.
+pub(crate) fn row_by(
     alloc: Global,
     style: &Style,
     kinds: &[Kind],

@@ -33,10 +33,16 @@ INTEGERS {m} FUNCTION {f} {n #1 + 'n := {n #0 >} {n #1 - 'n :=} while$} READ EXE
 FUNCTION {not} {{#0} {#1} if$} FUNCTION {f} {title 's := {s empty$ not} {s #-2 global.max$ substring$ 's :=} while$} READ ITERATE {f}
 FUNCTION {not} {{#0} {#1} if$} FUNCTION {and} {'skip$ {pop$ #0} if$} FUNCTION {or} {{pop$ #1} 'skip$ if$} FUNCTION {f} {title 's := {s empty$ not s #1 #1 substring$ \"-\" = not and} {s #2 global.max$ substring$ 's :=} while$} READ ITERATE {f}
 INTEGERS {m} FUNCTION {not} {{#0} {#1} if$} FUNCTION {f} {title 's := #1 'n := #2 'm := {s n m substring$ \"\" = not} {n #1 + 'n :=} while$} READ ITERATE {f}
-INTEGERS {m} FUNCTION {not} {{#0} {#1} if$} FUNCTION {f} {title 's := #1 'n := #2 'm := {s n m substring$ \"\" = not} {s n m substring$ \"a\" = {n m + 'n :=} {n #1 + 'n :=} if$} while$} READ ITERATE {f}";
+INTEGERS {m} FUNCTION {not} {{#0} {#1} if$} FUNCTION {f} {title 's := #1 'n := #2 'm := {s n m substring$ \"\" = not} {s n m substring$ \"a\" = {n m + 'n :=} {n #1 + 'n :=} if$} while$} READ ITERATE {f}
+STRINGS {t} FUNCTION {not} {{#0} {#1} if$} FUNCTION {cut} {'n := duplicate$ #1 #1 substring$ \"\" = {\"\"} {'s := #2 duplicate$ #2 < {pop$ \"\"} {s swap$ global.max$ substring$} if$} if$} FUNCTION {f} {title {duplicate$ \"\" = not} {#1 cut 't := t} while$ pop$} READ ITERATE {f}
+STRINGS {t} FUNCTION {not} {{#0} {#1} if$} FUNCTION {cut} {'n := duplicate$ #1 #1 substring$ \"\" = {\"\"} {'s := #2 duplicate$ #2 < {pop$ \"\"} {#1 + s swap$ global.max$ substring$} if$} if$} FUNCTION {f} {title {duplicate$ \"\" = not} {#1 cut 't := t} while$ pop$} READ ITERATE {f}
+STRINGS {t} FUNCTION {not} {{#0} {#1} if$} FUNCTION {cut} {'n := duplicate$ #1 #1 substring$ \"\" = {\"\"} {'s := #2 duplicate$ #2 < {pop$ \"\"} {s swap$ global.max$ substring$} if$} if$} FUNCTION {f} {title {duplicate$ \"\" = not} {#1 cut 't := s write$ t} while$ pop$} READ ITERATE {f}
+STRINGS {t} FUNCTION {not} {{#0} {#1} if$} FUNCTION {w} {#55} FUNCTION {cut} {'n := duplicate$ #1 #1 substring$ \"\" = {\"\"} {'s := #2 duplicate$ #2 < {pop$ \"\"} {s swap$ global.max$ substring$} if$} if$} FUNCTION {f} {title {duplicate$ \"\" = not} {w cut 't := t} while$ pop$} READ ITERATE {f}
+STRINGS {t} FUNCTION {not} {{#0} {#1} if$} FUNCTION {cut} {'n := duplicate$ #1 #1 substring$ \"\" = {\"\"} {'s := n {duplicate$ #0 >} {#1 -} while$ duplicate$ #2 < {pop$ \"\"} {duplicate$ s swap$ #1 swap$ substring$ swap$ s swap$ global.max$ substring$} if$} if$} FUNCTION {f} {title {duplicate$ \"\" = not} {n cut 't := * write$ \"\" t} while$ pop$} READ ITERATE {f}
+FUNCTION {not} {{#0} {#1} if$} FUNCTION {f} {title 's := {s #1 #1 substring$ \"\" = not} {s #2 global.max$ substring$ 's :=} while$} READ ITERATE {f}";
 
 // Their bounds: the steps of a run, and for each entry.
-const BOUNDS: [(u64, u64); 27] = [
+const BOUNDS: [(u64, u64); 33] = [
     (2, 0),
     (0, 9),
     (7, 3),
@@ -64,6 +70,12 @@ const BOUNDS: [(u64, u64); 27] = [
     (0, 3542),
     (0, 3832),
     (0, 5842),
+    (0, 4290),
+    (0, 4494),
+    (0, 4494),
+    (0, 4392),
+    (0, 1533303331002),
+    (0, 2027),
 ];
 
 // .. and of styles that aren't known to end: for a loop whose test looks at no variable, a type that calls the entry's type, functions that don't stand just
@@ -115,7 +127,16 @@ INTEGERS {m} FUNCTION {not} {{#0} {#1} if$} FUNCTION {f} {title 's := #1 'n := #
 INTEGERS {m} FUNCTION {not} {{#0} {#1} if$} FUNCTION {f} {title 's := #1 'n := #2 'm := {s n m substring$ \"\" = not} {s n m substring$ \"a\" = {n m + 'n :=} 'skip$ if$} while$} READ ITERATE {f}
 INTEGERS {m} FUNCTION {not} {{#0} {#1} if$} FUNCTION {f} {title 's := #1 'n := #2 'm := {s n m substring$ \"\" = not} {s n m substring$ \"a\" = {n m + 'n :=} {m #1 + 'n :=} if$} while$} READ ITERATE {f}
 INTEGERS {m} FUNCTION {not} {{#0} {#1} if$} FUNCTION {f} {title 's := #1 'n := #2 'm := {s n m substring$ \"\" = not} {#0 'm := n m + 'n :=} while$} READ ITERATE {f}
-INTEGERS {m} FUNCTION {not} {{#0} {#1} if$} FUNCTION {f} {title 's := #1 'n := #2 'm := {s n m substring$ \"\" = not} {title 's := n #1 + 'n :=} while$} READ ITERATE {f}";
+INTEGERS {m} FUNCTION {not} {{#0} {#1} if$} FUNCTION {f} {title 's := #1 'n := #2 'm := {s n m substring$ \"\" = not} {title 's := n #1 + 'n :=} while$} READ ITERATE {f}
+STRINGS {t} FUNCTION {not} {{#0} {#1} if$} FUNCTION {cut} {'n := duplicate$ #1 #1 substring$ \"\" = {\"\"} {'s := #2 duplicate$ #1 < {pop$ \"\"} {s swap$ global.max$ substring$} if$} if$} FUNCTION {f} {title {duplicate$ \"\" = not} {#1 cut 't := t} while$ pop$} READ ITERATE {f}
+STRINGS {t} FUNCTION {not} {{#0} {#1} if$} FUNCTION {cut} {'n := duplicate$ #1 #1 substring$ \"\" = {\"\"} {'s := #2 duplicate$ #2 < {pop$ \"\"} {#1 - s swap$ global.max$ substring$} if$} if$} FUNCTION {f} {title {duplicate$ \"\" = not} {#1 cut 't := t} while$ pop$} READ ITERATE {f}
+STRINGS {t} FUNCTION {not} {{#0} {#1} if$} FUNCTION {cut} {'n := duplicate$ #1 #1 substring$ \"\" = {\"\"} {'s := #2 duplicate$ #2 < {pop$ \"\"} {s swap$ global.max$ substring$} if$} if$} FUNCTION {f} {title {duplicate$ \"\" = not} {#1 cut 't := s 't := t} while$ pop$} READ ITERATE {f}
+STRINGS {t} FUNCTION {not} {{#0} {#1} if$} FUNCTION {w} {\"a\"} FUNCTION {cut} {'n := duplicate$ #1 #1 substring$ \"\" = {\"\"} {'s := #2 duplicate$ #2 < {pop$ \"\"} {s swap$ global.max$ substring$} if$} if$} FUNCTION {f} {title {duplicate$ \"\" = not} {w cut 't := t} while$ pop$} READ ITERATE {f}
+STRINGS {t} FUNCTION {not} {{#0} {#1} if$} FUNCTION {cut} {'n := duplicate$ #1 #1 substring$ \"\" = {\"\"} {'s := n {duplicate$ #0 >} {#1 -} while$ duplicate$ #2 < {pop$ \"\"} {duplicate$ s swap$ #1 swap$ substring$ swap$ title 's := s swap$ global.max$ substring$} if$} if$} FUNCTION {f} {title {duplicate$ \"\" = not} {n cut 't := * write$ \"\" t} while$ pop$} READ ITERATE {f}
+FUNCTION {not} {{#0} {#1} if$} FUNCTION {f} {title 's := {s #1 #1 substring$ \"a\" = not} {s #2 global.max$ substring$ 's :=} while$} READ ITERATE {f}
+STRINGS {t} FUNCTION {not} {{#0} {#1} if$} FUNCTION {cut} {'n := duplicate$ #1 #1 substring$ \"\" = {\"\"} {'s := #2 duplicate$ #2 < {pop$ \"\"} {s swap$ global.max$ substring$} if$} if$} FUNCTION {f} {title {duplicate$ \"a\" = not} {#1 cut 't := t} while$ pop$} READ ITERATE {f}
+STRINGS {t} FUNCTION {not} {{#0} {#1} if$} FUNCTION {cut} {'n := duplicate$ #1 #1 substring$ \"\" = {\"a\"} {'s := #2 duplicate$ #2 < {pop$ \"\"} {s swap$ global.max$ substring$} if$} if$} FUNCTION {f} {title {duplicate$ \"\" = not} {#1 cut 't := t} while$ pop$} READ ITERATE {f}
+STRINGS {t} FUNCTION {not} {{#0} {#1} if$} FUNCTION {cut} {'n := duplicate$ #1 #1 substring$ \"\" = {\"\"} {'s := #2 duplicate$ #2 < {pop$ \"a\"} {s swap$ global.max$ substring$} if$} if$} FUNCTION {f} {title {duplicate$ \"\" = not} {#1 cut 't := t} while$ pop$} READ ITERATE {f}";
 
 // How many bytes a global string variable keeps in these tests.
 const KEPT: u32 = 100;
