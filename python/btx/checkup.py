@@ -236,9 +236,12 @@ class Remedies:
         item = self.known.around(finding.source, finding.start)
         if item is None:
             return None
-        parent = (item.value_of(b"crossref") or b"").strip().lower()
-        its = self.known.entries.get(parent) if parent else None
-        return of_missing(item, found[1] if found else "", None if its is None else its[1])
+        names, fields = "" if found is None else found[1], tuple(item.records.names_between(item.at + 1, item.last))
+        if b"crossref" in fields or b"date" in fields:
+            parent = self.known.entries.get((item.value_of(b"crossref") or b"").strip().lower())
+            return of_missing(item, names, None if parent is None else parent[1])
+        # (the names of its fields tell all)
+        return self.once(partial(of_missing, item, names, None), names, fields)
 
     def of_unread(self, finding: Finding, lines: Lines) -> Optional[str]:
         name = text_at(finding).lower()

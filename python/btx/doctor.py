@@ -7,7 +7,6 @@ A check that a run would log says what the run logs. The others are guesses, and
 
 from __future__ import annotations
 
-import bisect
 import itertools
 import re
 from operator import itemgetter
@@ -77,6 +76,7 @@ MOST_DEPTH = 3
 # All bytes but the signs at which LaTeX may stop.
 NO_SIGN = bytes(byte for byte in range(256) if byte not in b"_&^%#")
 NONE: FrozenSet[bytes] = frozenset()
+LINE_END = ord("\n")
 
 
 class Source(NamedTuple):
@@ -219,6 +219,9 @@ class Examiner:
         self.strings = self.database.strings
         self.fields_after = {}
         items = self.database.items
+        if items:
+            # (each entry asks for those of its fields)
+            items[0].records.make_names()
         self.text_between(0, items[0].start if items else len(source.text))
         self.encoding()
         self.examine_items(items, len(source.text), known)
@@ -648,16 +651,13 @@ class Examiner:
 
     def entries_in_comments(self) -> None:
         """Says which entries are read to their ends though their line begins as a comment would."""
-        for number, source, database in self.databases:
-            self.number, self.source = number, source
-            lines = list(AS_COMMENT.finditer(source.text))
-            starts = [item.start for item in database.items] if lines else []
-            for line in lines:
-                end = source.text.find(b"\n", line.end())
-                first, last = bisect.bisect_left(starts, line.end() - 1), len(starts) if end < 0 else bisect.bisect_left(starts, end)
-                for item in database.items[first:last]:
-                    if item.is_entry and item.slip is None:
-                        self.say("not-hidden", item.start, item.kind_end, item.key)
+        for self.number, self.source, database in self.databases:
+            text, begin, last = self.source.text, 0, 0
+            # (most entries begin their lines; what is before the others on their lines is looked through once)
+            for item in [item for item in database.items if item.start and text[item.start - 1] != LINE_END]:
+                begin, last = max(begin, text.rfind(b"\n", last, item.start) + 1), item.start
+                if item.is_entry and item.slip is None and AS_COMMENT.match(text, begin, item.start):
+                    self.say("not-hidden", item.start, item.kind_end, item.key)
 
     # ---- citations ----
 

@@ -54,8 +54,8 @@ NAME_TOKEN = re.compile(rb"[^ \t\r\n~,]+|,")
 # A command or a formula of TeX; the commands that are letters, which lose their capitals in braces as well.
 OF_TEX = re.compile(rb"\\[A-Za-z]+|\\\((?:[^\\]|\\[^)])*\\\)|\\.|\$(?:[^$\\]|\\.)*\$", re.DOTALL)
 LETTERS = frozenset((b"\\L", b"\\O", b"\\AA", b"\\AE", b"\\OE"))
-# A line that begins as a comment would, up to an `@` in it.
-AS_COMMENT = re.compile(rb"(?mi)^[ \t]*(?:%|@comment(?![a-z]))[^\n@]*@")
+# How a line begins that is meant as a comment.
+AS_COMMENT = re.compile(rb"[ \t]*(?:%|@comment(?![a-z]))", re.IGNORECASE)
 # What looks like an entry, but for its `@`: a word, a brace, a key, and a field.
 ENTRY_IN_TEXT = re.compile(rb"(?m)^[ \t]*([A-Za-z]+)[ \t]*[{(][ \t]*([^\x00-\x20\"#%'(),={}]+)[ \t]*,\s*[A-Za-z][A-Za-z_-]*[ \t]*=")
 DASHES = {"-": "one hyphen", "\u2010": "a hyphen of its own", "\u2011": "a non-breaking hyphen", "\u2012": "a figure dash", "\u2013": "an en dash", "\u2014": "an em dash", "\u2212": "a minus sign"}

@@ -5,9 +5,10 @@ from __future__ import annotations
 import bisect
 import difflib
 import unicodedata
-from collections import Counter
+from collections import Counter, defaultdict
 from functools import cached_property
-from typing import Dict, Iterable, List, Optional, Set, Tuple, Union
+from operator import add
+from typing import Dict, Iterable, List, Optional, Tuple, Union
 
 from .bibtext import Database, Item, Lines, read
 from .doctor import JOURNALS, MONTHS, Source, lines_of
@@ -22,7 +23,7 @@ LEAST_ALIKE, LEAST_PAIRS = 0.8, 0.4
 # How many letters a name has at most for which another one is looked for; how many names with a pair of its letters are looked at, and how many of these are compared letter by letter.
 MOST_LETTERS, MOST_LOOKED_AT, MOST_COMPARED = 200, 500, 10
 # For how many pairs the names are looked through; for more of them each name is divided into its pairs once.
-MOST_SCANS = 60
+MOST_SCANS = 24
 
 
 class Names:
@@ -59,10 +60,10 @@ class Names:
     @cached_property
     def by_pair(self) -> Dict[str, List[str]]:
         """The names, in small letters, by each pair of letters that stand side by side in them."""
-        found: Dict[str, List[str]] = {}
+        found: Dict[str, List[str]] = defaultdict(list)
         for name in self.short:
-            for pair in pairs_of(name):
-                found.setdefault(pair, []).append(name)
+            for pair in set(map(add, "\0" + name, name + "\0")):
+                found[pair].append(name)
         return found
 
     def with_pair(self, pair: str) -> List[str]:
@@ -118,9 +119,9 @@ def names_of(names: Union[Names, Iterable[str]]) -> Names:
     return names if isinstance(names, Names) else Names(names)
 
 
-def pairs_of(name: str) -> Set[str]:
+def pairs_of(name: str) -> List[str]:
     """Each pair of letters that stand side by side in a name, with its ends, once."""
-    return {first + second for first, second in zip("\0" + name, name + "\0")}
+    return list(dict.fromkeys(map(add, "\0" + name, name + "\0")))
 
 
 class Known:

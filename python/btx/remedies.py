@@ -353,7 +353,7 @@ class Slipped:
 
     def is_other_item(self) -> bool:
         """Whether another item begins in this line, below the first line of this one."""
-        begin = self.lines.starts[self.line]
+        begin = self.lines.start_of_line(self.place)
         rest = self.text[begin : min(begin + MOST_OF_LINE, self.place + 100)]
         return self.line > self.lines.line_of(self.item.start) and rest.lstrip().startswith(b"@")
 
@@ -510,7 +510,7 @@ def is_hidden(text: bytes, lines: Lines, item: Item) -> bool:
     """Whether an entry was meant to be hidden: its line begins with a `%` or a `@comment`."""
     if not item.is_entry or text[item.start - 1 : item.start] in (b"\n", b""):
         return False
-    begin = lines.starts[lines.line_of(item.start)]
+    begin = lines.start_of_line(item.start)
     start = text[begin : min(item.start, begin + MOST_OF_LINE)].lstrip()[:8]
     return start.startswith(b"%") or start.lower() == b"@comment"
 
