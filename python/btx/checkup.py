@@ -128,7 +128,7 @@ def check_up(given: argparse.Namespace) -> int:
     read_ones: Dict[int, Database] = {}
     found, sources = findings_of(given.job, sources, in_use, search, read_ones)
     found = without_unread([finding for finding in found if finding.check not in off])
-    print_findings(found, Remedies(sources, in_use, read_ones), given)
+    print_findings(found, Remedies(sources, in_use, read_ones, given.job), given)
     sys.stdout.flush()
     return STATUS_MISTAKES if any(finding.severity == "error" for finding in found) else 0
 
@@ -172,9 +172,10 @@ def without_consequences(found: List[Finding], is_whole: bool) -> List[Finding]:
 class Remedies:
     """What to do about findings. What findings share is found once."""
 
-    def __init__(self, sources: List[Source], style: Optional[StyleFile] = None, databases: Optional[Dict[int, Database]] = None) -> None:
+    def __init__(self, sources: List[Source], style: Optional[StyleFile] = None, databases: Optional[Dict[int, Database]] = None, job: Optional[str] = None) -> None:
         self.sources = sources
         self.style = style
+        self.job = job
         self.known = Known(sources, databases)
         self.of_places: Dict[int, Dict[int, str]] = {}
         self.kept: Dict[Tuple[object, ...], Optional[str]] = {}
@@ -309,8 +310,10 @@ class Remedies:
     def of_logged(self, finding: Finding, lines: Lines) -> Optional[str]:
         """What to do about an error that a run of the job logs."""
         from .document_checks import remedy_by_document
+        from .several_lists import remedy_of_lists
 
-        return of_aux(finding) or remedy_by_document(finding.text, finding.source.name) or remedy_of(finding.text, self.known.keys if finding.key else ())
+        several = None if self.job is None else remedy_of_lists(finding.text, list(aux_files(self.job)))
+        return several or of_aux(finding) or remedy_by_document(finding.text, finding.source.name) or remedy_of(finding.text, self.known.keys if finding.key else ())
 
     def of_entry(self, finding: Finding, lines: Lines) -> Optional[str]:
         """What to do about a citation without an entry: one without a key may be meant."""
@@ -399,7 +402,10 @@ def databases_of(job: str, search: Search) -> List[str]:
             print(f"btx: there is no database {shown(os.fsdecode(name))}", file=sys.stderr)
     paths = [os.fsdecode(path[2:] if path.startswith(b"./") else path) for _, path in found if path is not None]
     if not paths:
-        raise Refused(f"{job} names no database that is there: name one")
+        from .several_lists import remedy_of_units
+
+        several = None if names else remedy_of_units(next(aux_files(job)))
+        raise Refused(f"{job} names no database: {several}" if several else f"{job} names no database that is there: name one")
     return paths
 
 
@@ -422,12 +428,13 @@ def aux_files(job: str) -> Iterator[Source]:
 
 def cited_elsewhere(auxes: List[Source], sources: List[Source]) -> FrozenSet[bytes]:
     """The keys, in lower case, that other `.aux` files of the job's folder cite from one of these databases: packages such as multibib and bibunits have several for a document."""
-    folder = os.path.dirname(auxes[0].name)
+    from .several_lists import aux_beside
+
     own, stems = {aux.name for aux in auxes}, {stem_of(source.name) for source in sources}
-    names = sorted(name for name in os.listdir(folder or os.curdir) if name.endswith(".aux"))
-    others = [path for path in (os.path.join(folder, name) for name in names[:MOST_AUX]) if path not in own and os.path.isfile(path)]
-    found = (aux for aux in (Source(path, content_of(os.fsencode(path), MOST_BYTES)) for path in others) if not stems.isdisjoint(named_databases(aux.text)))
-    return frozenset(citation.key.lower() for aux in found for citation in citations_of(aux.name))
+    trees = [list(aux_files(aux.name)) for aux in aux_beside(auxes[0].name) if aux.name not in own]
+    # (a file that reads others may leave it to them to name the databases)
+    found = (tree for tree in trees if not stems.isdisjoint(name for aux in tree for name in named_databases(aux.text)))
+    return frozenset(citation.key.lower() for tree in found for aux in tree for citation in citations_of_file(aux))
 
 
 def named_databases(aux: bytes) -> List[str]:
