@@ -20,6 +20,7 @@ CHECKS = {
     for check in (
         Check("mistake", "error", "Exact: a run logs the same text for the same line."),
         Check("repeated-key", "error", "Exact: a run that stores both entries logs it; what follows the key isn't read."),
+        Check("key-of-tex", "warning", "Exact for LaTeX's own `\\cite`: TeX reads a `~`, a `#`, a `%` or a backslash in a key, so the citation isn't found, or LaTeX stops."),
         Check("repeated-field", "warning", "Exact: a run logs it where the style reads the field."),
         Check("long-value", "error", "Exact: the value has more than 1,000,000 bytes, so a run that stores it ends with `limit string`."),
         Check("undefined-string", "warning", "Exact with --style; else the strings that TeX's standard styles define count as defined."),
@@ -74,6 +75,7 @@ CHECKS = {
 SAID = {
     "mistake": "{}",
     "repeated-key": "{}",
+    "key-of-tex": "LaTeX can't cite this key, in which TeX reads the `{1}`: call it `{0}`, or the like",
     "repeated-field": "I'm ignoring {}'s extra \"{}\" field",
     "long-value": "the value of {} has more than 1,000,000 bytes",
     "undefined-string": 'string name "{}" is {}',

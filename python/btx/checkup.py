@@ -14,6 +14,7 @@ from typing import TYPE_CHECKING, Callable, Dict, FrozenSet, Iterator, List, Nam
 from .bibtext import REPEATED, Database, Lines
 from .commands import STATUS_DEVICE, STATUS_REFUSED, Words, broken_pipe, in_words, shown, stem_of
 from .doctor import CHECKS, Citation, Elsewhere, Finding, Source, Style, examine, lines_of, without_unread
+from .key_signs import remedy_of_line
 from .known import Known
 from .reading import without_collection
 from .remedies import GENERAL, SEEN, begins_item, begins_month, field_for_each_name, missed_field, not_hidden, of_items, of_missing, remedy_of, said
@@ -312,6 +313,10 @@ class Remedies:
         from .document_checks import remedy_by_document
         from .several_lists import remedy_of_lists
 
+        if finding.text == "White space in argument" or finding.text == 'No "}"':
+            of_key = remedy_of_line(finding.source.text[finding.start : finding.end], self.known.keys)
+            if of_key is not None:
+                return of_key
         several = None if self.job is None else remedy_of_lists(finding.text, list(aux_files(self.job)))
         return several or of_aux(finding) or remedy_by_document(finding.text, finding.source.name) or remedy_of(finding.text, self.known.keys if finding.key else ())
 

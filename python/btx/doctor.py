@@ -17,6 +17,7 @@ from .bibtext import ENDS_TEXT, Database, Field, Item, Lines, field_of, read, un
 from .checks import CHECKS, SAID, Check
 from .doubts import AS_COMMENT, ENTRY_IN_TEXT, INITIAL_BEFORE_COMMA, OTHER_SPACE, SIGN, STRAY_AND, SUFFIX_LAST, TEXTS, TWO_WORDS, Persons, has_words, list_in_braces, lost_words
 from .doubts import lowered_tokens, may_lose, names_by_commas, sign_by_names, sign_of_tex, stray_and, suffix_last, what_for_hyphens
+from .key_signs import SIGN_OF_TEX, plain_key
 from .reading import ENTRY, PREAMBLE, STRING, without_collection
 from .usual import ALONE, EITHER, FIELDS, REQUIRED, missing_fields, near_field
 from .values import BRACE
@@ -310,6 +311,8 @@ class Examiner:
             numbers = self.first_of_each(item, names)
         if self.style is not None:
             self.unread(item, self.style, numbers)
+        if SIGN_OF_TEX.search(item.key or b""):
+            self.key_of_tex(item)
         if self.printing is not None and item.slip is None:
             self.unprinted(item, self.printing, numbers)
         kind = item.kind
@@ -350,6 +353,13 @@ class Examiner:
         """Where the name of a field begins and ends."""
         start = item.records.starts[number]
         return start, start + item.records.name_len[number]
+
+    def key_of_tex(self, item: Item) -> None:
+        """Says which sign of a key TeX reads otherwise."""
+        key = item.key or b""
+        found = SIGN_OF_TEX.search(key)
+        if found is not None:
+            self.say("key-of-tex", item.key_end - len(key), item.key_end, key, plain_key(shown(key)), found[0])
 
     def unread(self, item: Item, style: Style, numbers: Dict[bytes, int]) -> None:
         """Says what of an entry the style doesn't know."""

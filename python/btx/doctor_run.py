@@ -71,13 +71,15 @@ def findings_of_run(job: str, sources: List[Source], auxes: List[Source], citati
     placer = Placer(sources, auxes, {citation.key.lower() for citation in citations})
     faults = [] if own_style is None else [it for it in messages if is_of_style(it)]
     messages = messages if own_style is None else [it for it in messages if not is_of_style(it)]
-    seen: Set[Tuple[str, Optional[str]]] = set()
+    seen: Set[Tuple[object, ...]] = set()
     findings: List[Finding] = []
     for message in messages:
         if message.text.startswith("I found no ") and is_cause(findings, auxes):
             continue
-        finding = None if (message.text, message.entry) in seen else placer.finding(message)
-        seen.add((message.text, message.entry))
+        # (a citation that can't be read is another one in each line)
+        about = (message.text, message.entry, *([message.file, message.line] if message.text == "White space in argument" else []))
+        finding = None if about in seen else placer.finding(message)
+        seen.add(about)
         findings += [] if finding is None else [finding]
     findings += placer.of_faults(faults, own_style or "")
     return Logged(findings, has_whole_list(auxes, [it for it in messages if it.kind is Kind.ERROR]))

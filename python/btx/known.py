@@ -72,7 +72,7 @@ class Names:
             return self.scanned[pair]
         if len(self.scanned) >= MOST_SCANS:
             return self.by_pair.get(pair, [])
-        first, second = pair
+        first, second = pair[0], pair[1]
         if first == "\0":
             found = [name for name in self.short if name.startswith(second)]
         else:

@@ -7,6 +7,7 @@ from functools import lru_cache
 from typing import Dict, Iterable, List, Optional, Tuple, Union
 
 from .bibtext import REPEATED, Item, Lines
+from .key_signs import remedy_of_key
 from .known import ALIKE, Names, names_of
 
 __all__ = ["GENERAL", "SEEN", "begins_item", "begins_month", "field_for_each_name", "missed_field", "not_hidden", "of_items", "of_missing", "of_mistake", "remedy_of", "said"]
@@ -201,6 +202,9 @@ def of_no_entry(text: str, keys: Names) -> Optional[str]:
     key = found[1]
     if not key:
         return EMPTY_CITE
+    of_tex = remedy_of_key(key, keys)
+    if of_tex is not None:
+        return of_tex
     form = keys.other_form(key)
     if form:
         return said(SEEN["OtherForm"], form)

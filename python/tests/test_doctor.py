@@ -32,6 +32,7 @@ LONG = b"x" * 1_000_001
 ROWS = [
     ("mistake", b"@misc{k, note <1>}", b"@misc{k, note = 1}"),
     ("repeated-key", b"@misc{k} @misc{<K>}", b"@misc{k} @misc{kk}"),
+    ("key-of-tex", b"@misc{<c\\_d>}", b"@misc{c_d}"),
     ("repeated-field", b"@misc{k, note = {A}, <Note> = {B}}", b"@misc{k, note = {A}, notes = {B}}"),
     ("long-value", b"@misc{k, <note> = {" + LONG + b"}}", b"@misc{k, note = {" + LONG[1:] + b"}}"),
     ("long-value", b"@ String ( <ab>={" + LONG + b"})", b"@string{ab={" + LONG[1:] + b"}}"),
