@@ -11,15 +11,15 @@ import sys
 from functools import cached_property, partial
 from typing import TYPE_CHECKING, Callable, Dict, FrozenSet, Iterator, List, NamedTuple, Optional, Set, Tuple
 
-from .bibtext import REPEATED, Database, Lines
+from .bibtext import REPEATED, Database, Item, Lines
 from .commands import STATUS_DEVICE, STATUS_REFUSED, Words, broken_pipe, in_words, shown, stem_of
-from .doctor import CHECKS, Citation, Elsewhere, Finding, Source, Style, examine, lines_of, without_unread
+from .doctor import CHECKS, LOOKS_LIKE_FIELD, Citation, Elsewhere, Finding, Source, Style, examine, lines_of, without_unread
 from .key_signs import remedy_of_line
 from .known import Known
 from .reading import without_collection
 from .remedies import GENERAL, SEEN, begins_item, begins_month, field_for_each_name, missed_field, not_hidden, of_items, of_missing, remedy_of, said
 from .searching import MOST_BYTES, Search, content_of, found_search
-from .usual import FIELDS, near_type
+from .usual import FIELDS, OF_BIBLATEX, near_type
 
 if TYPE_CHECKING:
     from .bsttext import Word
@@ -36,10 +36,16 @@ BIBDATA = re.compile(rb"(?m)^\\bibdata\{([^}\r\n \t]*)\}\r?$")
 MISSING = re.compile("(?:.* warns where )?the field (.*) is missing")
 BEGINS_FIELDS = re.compile(rb"(?im)^[ \t]*entry\b")
 MOST_AUX = 1000
+NO_STYLE = re.compile(r"I couldn't open style file (.*)\.bst", re.DOTALL)
 # How much of two names of a field is the same where one may be meant by the other.
 LEAST_ALIKE = 0.75
 # How many entries that nothing cites are named in the line for all.
 MOST_NAMED = 5
+# Fields with an address of the web; letters after a key that make it another one.
+ADDRESSES = ("doi", "url")
+NEW_LETTERS = [bytes([letter]) for letter in range(ord("b"), ord("z") + 1)]
+# What doesn't tell titles.
+NOT_TITLE = bytes(byte for byte in range(128) if not chr(byte).isalnum())
 # How many findings are printed at once.
 AT_ONCE = 1000
 # What the run of a job says itself, as far as it counts there.
@@ -51,7 +57,6 @@ OF_CHECKS = {
     "repeated-doi": "keep one of the two entries, and cite that one",
     "repeated-title": "keep one of the two entries, if they are one work",
     "empty-field": "fill it in, or take it out",
-    "unknown-type": "take a type that the style has, such as `misc`",
     "all-entries": "take `\\nocite{*}` out, where the list is to have only what is cited, and run LaTeX",
     "older-aux": "run LaTeX, then BibTeX",
     "others-inside": SEEN["OthersInside"],
@@ -153,7 +158,8 @@ def findings_of(job: Optional[str], sources: List[Source], in_use: Optional[Styl
     of_document, newer = findings_of_documents(documents_of(job), citations, entries)
     own_style = in_use.path if in_use is not None and in_use.is_of_job and in_use.is_own else None
     logged = findings_of_run(job, sources, auxes, citations, search, own_style)
-    found = without_consequences(found + of_document + logged.findings, logged.is_whole)
+    of_types = {(id(it.source), it.start) for it in found if it.check == "unknown-type"}
+    found = without_consequences(found + of_document + [it for it in logged.findings if it.check != "unknown-type" or (id(it.source), it.start) not in of_types], logged.is_whole)
     order = {id(source): number for number, source in enumerate(sources)}
     found = [finding for finding in found if finding.check != "uncited" or finding.key not in newer]
     return sorted(found, key=lambda finding: (order.get(id(finding.source), -1), finding.start, finding.end)), sources
@@ -214,6 +220,14 @@ class Remedies:
         near = near_type(text_at(finding)[1:].lower())
         return f"write `@{near}`" if near else "write a type of BibTeX's, such as `@misc`"
 
+    def of_unknown_type(self, finding: Finding, lines: Lines) -> str:
+        """What to do about a type that a style doesn't have."""
+        kind = text_at(finding)[1:].strip().lower()
+        near = near_type(kind)
+        if kind in OF_BIBLATEX and near:
+            return said(SEEN["OfBiblatexType"], kind, near)
+        return f"write `@{near}`" if near else "take a type that the style has, such as `misc`"
+
     def of_parent(self, finding: Finding, lines: Lines) -> str:
         return f"move {finding.text.split()[2]} below all entries that name it, or cite it"
 
@@ -225,12 +239,23 @@ class Remedies:
         if found is None:
             return hidden or GENERAL[REPEATED]
         its, first = found
-        return f"{GENERAL[REPEATED]}: the first is {begins_item(its.name, its.text, lines if its is source else lines_of(its, self.known.lines), first)}"
+        item = self.known.around(source, finding.start)
+        words = None if item is None else self.of_other_work(item, first)
+        return f"{words + ';' if words else GENERAL[REPEATED] + ':'} the first is {begins_item(its.name, its.text, lines if its is source else lines_of(its, self.known.lines), first)}"
+
+    def of_other_work(self, item: Item, first: Item) -> Optional[str]:
+        """What to do about a second entry of a key whose title is another one."""
+        titles = [title_of(it) for it in (item, first)]
+        if not all(titles) or titles[0].startswith(titles[1]) or titles[1].startswith(titles[0]):
+            return None
+        key = item.key or b""
+        new = next((key + letter for letter in NEW_LETTERS if (key + letter).lower() not in self.known.entries), None)
+        return None if new is None else said(SEEN["OtherWork"], shown(new.decode("utf8", "surrogateescape")))
 
     def of_hidden(self, finding: Finding, lines: Lines) -> Optional[str]:
         """What to do about an entry that was meant to be hidden."""
         item = self.known.around(finding.source, finding.start)
-        return None if item is None else not_hidden(finding.source.name, finding.source.text, lines, item)
+        return None if item is None else said(SEEN["NotHidden"], begins_item(finding.source.name, finding.source.text, lines, item))
 
     def of_missing(self, finding: Finding, lines: Lines) -> Optional[str]:
         """What to do about a field that an entry lacks, and its parent as well."""
@@ -252,7 +277,7 @@ class Remedies:
     def unread(self, name: str) -> str:
         """What to do about a field that the style doesn't read: its own author may have meant the field by a name that no usual field has."""
         if self.style is None or not self.style.is_own:
-            return "leave it, or take a style that reads it"
+            return said(SEEN["UnprintedAddress"], name) if name in ADDRESSES else "leave it, or take a style that reads it"
         definitions, lines = self.style_fields
         alike = difflib.get_close_matches(name, [word.name for word in definitions if word.name.encode() not in FIELDS], 1, LEAST_ALIKE)
         if alike:
@@ -306,7 +331,17 @@ class Remedies:
     def of_warning(self, finding: Finding, lines: Lines) -> Optional[str]:
         """What to do about a style's warning of an entry."""
         item = self.known.around(finding.source, finding.start)
-        return missed_field(item, finding.text) if item is not None and item.key_end == finding.end else None
+        if item is None or item.key_end != finding.end:
+            return None
+        return missed_field(item, finding.text) or self.after_end(finding, item, lines)
+
+    def after_end(self, finding: Finding, item: Item, lines: Lines) -> Optional[str]:
+        """What to do about a field that a style misses and that stands after the entry's end."""
+        fields = LOOKS_LIKE_FIELD.finditer(finding.source.text, item.end, self.known.next_start(finding.source, item))
+        found = next((it for it in fields if shown(it[1].decode("latin1")).lower() in finding.text.lower().split()), None)
+        if found is None:
+            return None
+        return f"`{shown(found[1].decode('latin1'))}` stands after the entry's end ({finding.source.name}:{lines.line_of(found.start(1)) + 1}): take out the brace before it that ends the entry too early"
 
     def of_logged(self, finding: Finding, lines: Lines) -> Optional[str]:
         """What to do about an error that a run of the job logs."""
@@ -317,6 +352,9 @@ class Remedies:
             of_key = remedy_of_line(finding.source.text[finding.start : finding.end], self.known.keys)
             if of_key is not None:
                 return of_key
+        of_style = of_style_name(finding.text)
+        if of_style is not None:
+            return of_style
         several = None if self.job is None else remedy_of_lists(finding.text, list(aux_files(self.job)))
         return several or of_aux(finding) or remedy_by_document(finding.text, finding.source.name) or remedy_of(finding.text, self.known.keys if finding.key else ())
 
@@ -329,6 +367,8 @@ class Remedies:
         if in_text is not None:
             source, place, kind = in_text
             return f"write `@` before `{kind}` ({source.name}:{self.known.line_of(source, place)})"
+        if not self.known.entries and self.sources:
+            return f"write the entry: {', '.join(source.name for source in self.sources)} has none at all"
         item = self.known.without_key
         return general if item is None else said(SEEN["EntryOfNoKey"], item.kind.decode("utf8", "replace"), finding.key)
 
@@ -338,6 +378,7 @@ class Remedies:
         "not-hidden": of_hidden,
         "repeated-field": of_repeated_field,
         "unusual-type": of_type,
+        "unknown-type": of_unknown_type,
         "missing-field": of_missing,
         "missed-field": of_missing,
         "missing-in-parent": of_missing,
@@ -349,6 +390,19 @@ class Remedies:
         "logged-warning": of_warning,
         "no-entry": of_entry,
     }
+
+
+def title_of(item: Item) -> bytes:
+    """The letters and digits of an entry's title; empty where it has none."""
+    return (item.value_of(b"title") or b"").lower().translate(None, NOT_TITLE)
+
+
+def of_style_name(text: str) -> Optional[str]:
+    """What to do about a style that isn't there, where one is whose name differs in its case."""
+    found = NO_STYLE.fullmatch(text)
+    name = found[1] if found else ""
+    is_there = name != name.lower() and found_search().path_of(os.fsencode(name.lower() + ".bst")) is not None
+    return f"write `{name.lower()}` for `{name}` in the `\\bibliographystyle`, and run LaTeX: names of files have their case" if is_there else None
 
 
 def text_at(finding: Finding) -> str:

@@ -8,10 +8,12 @@ from typing import TYPE_CHECKING, Optional
 if TYPE_CHECKING:
     from .known import Names
 
-__all__ = ["SIGN_OF_TEX", "plain_key", "remedy_of_key", "remedy_of_line"]
+__all__ = ["SIGN_OF_TEX", "UNSEEN", "as_seen", "plain_key", "remedy_of_key", "remedy_of_line"]
 
 # What TeX reads otherwise in the argument of `\cite`.
 SIGN_OF_TEX = re.compile(rb"[~#%]|\\(?:[A-Za-z]+|.|\Z)", re.DOTALL)
+# Characters that nobody sees: spaces without a width, marks of direction, soft hyphens.
+UNSEEN = re.compile("[\xad\u200b-\u200f\u2060\ufeff]")
 # What LaTeX writes for `~`, and for `\_` with each encoding of fonts.
 NO_BREAK = re.compile(r"(?:\\protect )?\\(?:unhbox \\voidb@x (?:\\protect )?\\penalty \\@M \\ |nobreakspace )\{\}")
 UNDERSCORE = re.compile(r"\\protect (?:\\global \\let \\\w+\\textunderscore [^}]*\})?\\\w+\\textunderscore ")
@@ -26,6 +28,11 @@ def as_cited(argument: str) -> Optional[str]:
     """The key that was cited, by what LaTeX has written of it; None where that isn't seen."""
     key = UNDERSCORE.sub(r"\\_", NO_BREAK.sub("~", argument))
     return None if re.search(r"\s|\\[A-Za-z@]", key) else key
+
+
+def as_seen(key: str) -> str:
+    """A key without characters that nobody sees."""
+    return UNSEEN.sub("", key)
 
 
 def plain_key(key: str) -> str:

@@ -168,6 +168,12 @@ class Known:
         number = bisect.bisect_right(starts, place) - 1
         return items[number] if number >= 0 and place < items[number].end and items[number].is_entry else None
 
+    def next_start(self, source: Source, item: Item) -> int:
+        """Where the next item after one begins, or the text ends."""
+        starts = self.items_and_starts(source)[1]
+        number = bisect.bisect_right(starts, item.start)
+        return starts[number] if number < len(starts) else len(source.text)
+
     def of_key(self, source: Source, key: bytes) -> List[Item]:
         """The entries of a database that have this key, in lower case."""
         if id(source) not in self.of_keys:
@@ -211,7 +217,7 @@ class Known:
         """The first entry that has a field in the place of its key."""
         for _, item in self.entries.values():
             records = item.records
-            if item.slip is not None and not item.fields and records.text[item.slip.place : item.slip.place + 1] == b"=":
+            if item.slip is not None and not item.fields and (records.text[item.slip.place : item.slip.place + 1] == b"=" or b"=" in (item.key or b"")):
                 return item
         return None
 

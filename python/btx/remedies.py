@@ -7,7 +7,7 @@ from functools import lru_cache
 from typing import Dict, Iterable, List, Optional, Tuple, Union
 
 from .bibtext import REPEATED, Item, Lines
-from .key_signs import remedy_of_key
+from .key_signs import as_seen, remedy_of_key
 from .known import ALIKE, Names, names_of
 
 __all__ = ["GENERAL", "SEEN", "begins_item", "begins_month", "field_for_each_name", "missed_field", "not_hidden", "of_items", "of_missing", "of_mistake", "remedy_of", "said"]
@@ -52,6 +52,7 @@ SEEN = {
     "OthersInside": "put `and others` after the last name",
     "NearKey": "write `$2` in the place of `$1` in the `\\cite`, and run LaTeX",
     "OtherForm": "copy the key `$1` from the database into the `\\cite`, and run LaTeX: it looks the same as the one there, and has other bytes",
+    "NearString": "write `$1`, or define `$2` by `@string` above its use",
     "NearParent": "write `crossref = {$1}`",
     "NamesByCommas": "write ` and ` between two names: `$1`",
     "AuxBreaksOff": "run LaTeX again to its end, then BibTeX: $1 ends in the middle of a line",
@@ -61,8 +62,11 @@ SEEN = {
     "DefinedInLater": "write `\\bibliography{$1}` and run LaTeX: $2 defines the string and is read too late",
     "DefinedBelow": "move the `@string` of `$1` ($2) above its first use",
     "EntryOfNoKey": "write the key into it: `@$1{$2,`",
+    "UnprintedAddress": "this style never prints `$1`: name one that does, such as `plainurl` or `plainnat`, or write `note = {\\url{..}}`",
+    "OtherWork": "give the second another key, such as `$1`, and cite it by that: its title is another one",
     "OtherField": "call it `$2`, as entries of this type have it: `$1` doesn't count here",
     "OfBiblatexDate": "write `year = {$1}`: `date` is a field of `biblatex`. Programs can export as BibTeX, not as BibLaTeX",
+    "OfBiblatexType": "write `@$2`: `@$1` is a type of `biblatex`, and this style has no function of that name",
     "OfBiblatexField": "call it `$2`: `$1` is a field of `biblatex`. Programs can export as BibTeX, not as BibLaTeX",
     "AlikeName": "write the name once more, with the `$1` of the keyboard: `$2`",
     "SpaceInName": "write the name once more, without that space: `$1`",
@@ -78,6 +82,8 @@ SEEN = {
 QUOTED_NAME = "write the name without quotes: `$1`"
 TWO_EQUALS = "take out one of the two `=` after `$1`"
 # What a run says of a citation whose key is empty.
+NO_PARENT = "no database has the entry `$1`: write it below all entries that name it, or take the field `crossref` out"
+UNSEEN_SIGN = "write the key of the entry once more, without its character that nobody sees: `$1`"
 EMPTY_CITE = "write a key in the empty `\\cite{}`, or take it out"
 # What to do about a message where nothing more is seen: `*` is a name and `~` any other text.
 GENERAL = {
@@ -87,6 +93,7 @@ GENERAL = {
         "name all databases in one `\\bibliography`; for several bibliographies a package as `multibib` or `chapterbib` writes an `.aux` file for each"
     ),
     "Illegal, another \\bibstyle command": "keep one `\\bibliographystyle`; some classes and packages (`revtex`, `natbib`'s styles) give one by themselves",
+    "Case mismatch error between cite keys ~ and ~": "cite the key in one spelling",
     "I found no \\citation commands": "write a `\\cite`, or `\\nocite{*}` for all entries, and run LaTeX; with `biblatex`, give it the option `backend=bibtex`",
     "I found no \\bibdata command": "write `\\bibliography{refs}` with the name of your database, and run LaTeX; with `biblatex`, give it the option `backend=bibtex`",
     "I found no \\bibstyle command": "write `\\bibliographystyle{plain}`, or another style, and run LaTeX; with `biblatex`, give it the option `backend=bibtex`",
@@ -131,7 +138,7 @@ LEAST_OF_TWO, MOST_OF_TWO = 4, 400
 MOST_OF_LINE, MOST_JOINED = 2000, 50
 # Names that biblatex has for fields, and fields that entries of one type have in the place of others.
 OF_BIBLATEX = {"journal": "journaltitle", "year": "date", "address": "location", "booktitle": "maintitle", "number": "issue"}
-OF_OTHER_TYPES = {"booktitle": ["journal"], "journal": ["booktitle"], "school": ["institution"], "institution": ["school"], "publisher": ["organization", "institution"]}
+OF_OTHER_TYPES = {"booktitle": ["journal"], "journal": ["booktitle"], "school": ["institution", "university"], "institution": ["school", "university"], "publisher": ["organization", "institution"]}
 
 
 # What comes after a last name, and what stands after a name and is no part of it; front/src/doubts.rs and explain/names.rs have the same.
@@ -213,6 +220,8 @@ def of_no_entry(text: str, keys: Names) -> Optional[str]:
         return said(SEEN["SemicolonInCite"], ",".join(pair))
     if has_key(key.split(";"), keys):
         return said(SEEN["SemicolonInCite"], ",".join(part.strip() for part in key.split(";") if part.strip()))
+    if near and as_seen(near) != near:
+        return said(UNSEEN_SIGN, as_seen(near))
     return said(SEEN["NearKey"], key, near) if near else None
 
 
@@ -223,7 +232,7 @@ def of_bad_parent(text: str, keys: Names) -> Optional[str]:
         return "write the key of the parent, or take the field `crossref` out"
     near = keys.other_form(found[1]) or keys.nearest(found[1]) if found else None
     if found is None or not near:
-        return None
+        return None if found is None else said(NO_PARENT, found[1])
     is_there = near.lower() == found[1].lower()
     return f"move `{near}` below all entries that name it, or cite it" if is_there else said(SEEN["NearParent"], near)
 
@@ -241,7 +250,7 @@ def of_no_string(text: str, strings: Names) -> Optional[str]:
         return said(SEEN["BareCommand"], name)
     if number:
         return said(SEEN["LetterForDigit"], *number)
-    return f"is it `{near}`?" if near else None
+    return said(SEEN["NearString"], near, name) if near else None
 
 
 def of_commas(text: str) -> Optional[str]:
@@ -366,8 +375,8 @@ class Slipped:
         item, here = self.item, self.text[self.place : self.place + 1]
         key = word(item.key or b"")
         if not item.fields:
-            if here == b"=":
-                return said(SEEN["NoKey"], word(item.kind), key)
+            if here == b"=" or "=" in key:
+                return said(SEEN["NoKey"], word(item.kind), key.partition("=")[0])
             return said(SEEN["NotClosed"], self.begins()) if self.is_other_item() else self.after_key(key)
         field = item.fields[-1]
         owner, is_in_line = word(self.text[field.name_start : field.name_end]), self.lines.line_of(field.end - 1) == self.line
