@@ -17,9 +17,9 @@ from .doctor import CHECKS, LOOKS_LIKE_FIELD, Citation, Elsewhere, Finding, Sour
 from .key_signs import remedy_of_line
 from .known import Known
 from .reading import without_collection
-from .remedies import GENERAL, SEEN, begins_item, begins_month, field_for_each_name, missed_field, not_hidden, of_items, of_missing, remedy_of, said
+from .remedies import GENERAL, OF_OTHER_TYPES, SEEN, begins_item, begins_month, field_for_each_name, missed_field, not_hidden, of_items, of_missing, remedy_of, said
 from .searching import MOST_BYTES, Search, content_of, found_search
-from .usual import FIELDS, OF_BIBLATEX, near_type
+from .usual import FIELDS, OF_BIBLATEX, REQUIRED, near_type
 
 if TYPE_CHECKING:
     from .bsttext import Word
@@ -44,6 +44,8 @@ MOST_NAMED = 5
 # Fields with an address of the web; letters after a key that make it another one.
 ADDRESSES = ("doi", "url")
 NEW_LETTERS = [bytes([letter]) for letter in range(ord("b"), ord("z") + 1)]
+# How a file in UTF-16 begins.
+BEGINS_UTF16 = (b"\xff\xfe", b"\xfe\xff")
 # What doesn't tell titles.
 NOT_TITLE = bytes(byte for byte in range(128) if not chr(byte).isalnum())
 # How many findings are printed at once.
@@ -107,7 +109,7 @@ def parser() -> argparse.ArgumentParser:
     result.add_argument("--style", metavar="S", help="the style: which fields, types and strings it has")
     result.add_argument("--job", metavar="J", help="the .aux file of a document: which entries it cites")
     result.add_argument("--json", action="store_true", help="print a line of JSON for each finding")
-    result.add_argument("--each", action="store_true", help="print a line for each entry that nothing cites, and not one for all")
+    result.add_argument("--each", action="store_true", help="print a line for each entry that nothing cites, and for each use of an undefined string, and not one for all")
     result.add_argument("--off", metavar="NAME,..", default="", help="checks that are left out")
     result.add_argument("--list", action="store_true", help="print the checks, and how exact each is")
     return result
@@ -202,6 +204,14 @@ class Remedies:
             return make(self, finding, lines)
         return of_aux(finding) or remedy_of(finding.text, self.known.keys if finding.key else ())
 
+    def same_as(self, finding: Finding) -> Optional[Tuple[object, ...]]:
+        """What findings have in common that one edit mends: a string that isn't defined, a file in another encoding, a database without an entry."""
+        if finding.check == "undefined-string":
+            return finding.check, id(finding.source), finding.text
+        if finding.check == "mistake" and finding.source.text[:2] in BEGINS_UTF16:
+            return finding.check, id(finding.source)
+        return (finding.check,) if finding.check == "no-entry" and not self.known.entries else None
+
     def of_mistake(self, finding: Finding, lines: Lines) -> Optional[str]:
         number = id(finding.source)
         if number not in self.of_places:
@@ -226,7 +236,7 @@ class Remedies:
         near = near_type(kind)
         if kind in OF_BIBLATEX and near:
             return said(SEEN["OfBiblatexType"], kind, near)
-        return f"write `@{near}`" if near else "take a type that the style has, such as `misc`"
+        return said(SEEN["NearType"], kind, near) if near else "take a type that the style has, such as `misc`"
 
     def of_parent(self, finding: Finding, lines: Lines) -> str:
         return f"move {finding.text.split()[2]} below all entries that name it, or cite it"
@@ -301,6 +311,11 @@ class Remedies:
 
     def of_unprinted(self, finding: Finding, lines: Lines) -> Optional[str]:
         kind, other = re.findall("`@(.*?)`", finding.text)[-2:]
+        item = self.known.around(finding.source, finding.start)
+        lost = text_at(finding).lower()
+        meant = next((name for name, others in OF_OTHER_TYPES.items() if lost in others and (name.encode(),) in REQUIRED.get(kind.encode(), ())), None)
+        if item is not None and meant is not None and item.value_of(meant.encode()) is None:
+            return said(SEEN["OtherField"], lost, meant)
         return self.once(lambda: self.unprinted(kind, other), "unprinted", kind, other)
 
     def unprinted(self, kind: str, other: str) -> str:
@@ -315,6 +330,9 @@ class Remedies:
         name = finding.source.text[finding.start : finding.end].lower()
         source, item = self.known.strings.get(name, (None, None))
         if source is None or item is None:
+            its, faulty = self.known.faulty_strings.get(name, (None, None))
+            if its is not None and faulty is not None:
+                return f"mend the `@string` of `{name.decode('utf8', 'replace')}` ({its.name}:{self.known.line_of(its, faulty.start)}) first: it has a mistake, so it defines nothing"
             may_be_month = self.is_in_month(finding) or begins_month(name.decode("utf8", "replace"))
             return remedy_of(finding.text, strings=self.known.names if may_be_month else self.known.names_beside_months)
         if source is finding.source:
@@ -352,11 +370,23 @@ class Remedies:
             of_key = remedy_of_line(finding.source.text[finding.start : finding.end], self.known.keys)
             if of_key is not None:
                 return of_key
+        if finding.text == "missing field is not a string" and finding.key:
+            return self.once(lambda: self.of_field_missing(finding), finding.text, finding.key)
         of_style = of_style_name(finding.text)
         if of_style is not None:
             return of_style
         several = None if self.job is None else remedy_of_lists(finding.text, list(aux_files(self.job)))
         return several or of_aux(finding) or remedy_by_document(finding.text, finding.source.name) or remedy_of(finding.text, self.known.keys if finding.key else ())
+
+    def of_field_missing(self, finding: Finding) -> Optional[str]:
+        """What to do about a field that the style takes without asking whether it is there."""
+        from .field_missing import field_missing
+
+        item = self.known.around(finding.source, finding.start)
+        if item is None or self.style is None or self.printing is None:
+            return None
+        name = field_missing(self.style.text, finding.source.text, item, self.printing.fields)
+        return None if name is None else said(SEEN["FieldIsMissing"], name)
 
     def of_entry(self, finding: Finding, lines: Lines) -> Optional[str]:
         """What to do about a citation without an entry: one without a key may be meant."""
@@ -367,6 +397,9 @@ class Remedies:
         if in_text is not None:
             source, place, kind = in_text
             return f"write `@` before `{kind}` ({source.name}:{self.known.line_of(source, place)})"
+        in_utf16 = next((source.name for source in self.sources if source.text[:2] in BEGINS_UTF16), None)
+        if not self.known.entries and in_utf16 is not None:
+            return said(SEEN["FileIsUtf16"], in_utf16)
         if not self.known.entries and self.sources:
             return f"write the entry: {', '.join(source.name for source in self.sources)} has none at all"
         item = self.known.without_key
@@ -532,13 +565,41 @@ def print_findings(found: List[Finding], remedies: Remedies, given: argparse.Nam
     summed = [] if given.json or given.each else [finding for finding in found if finding.check == "uncited"]
     shown_ones = [finding for finding in found if finding.check != "uncited"] if summed else found
     text_of = json_of if given.json else text_for_people
+    more: Dict[int, List[Finding]] = {}
+    if not given.json and not given.each:
+        shown_ones, more = folded(shown_ones, remedies)
     # (many lines are printed at once)
     for first in range(0, len(shown_ones), AT_ONCE):
-        sys.stdout.write("".join([text_of(finding, lines_of(finding.source, lines), remedies) for finding in shown_ones[first : first + AT_ONCE]]))
+        texts = [text_of(finding, lines_of(finding.source, lines), remedies) for finding in shown_ones[first : first + AT_ONCE]]
+        for at, finding in enumerate(shown_ones[first : first + AT_ONCE]) if more else ():
+            texts[at] += text_of_more(more.get(id(finding), []), lines)
+        sys.stdout.write("".join(texts))
     if summed:
         names = ", ".join(finding.key for finding in summed[:MOST_NAMED]) + (", .." if len(summed) > MOST_NAMED else "")
         entries = "1 entry is" if len(summed) == 1 else f"{len(summed)} entries are"
         print(f"{entries} {shown(summed[0].text)}: {shown(names)} (--each prints a line for each) [uncited]")
+
+
+def folded(found: List[Finding], remedies: Remedies) -> Tuple[List[Finding], Dict[int, List[Finding]]]:
+    """The findings without those that the same edit mends as an earlier one; and of that one, by its `id`, these others."""
+    firsts: Dict[Tuple[object, ...], Finding] = {}
+    kept: List[Finding] = []
+    more: Dict[int, List[Finding]] = {}
+    for finding in found:
+        same = remedies.same_as(finding)
+        if same is None or firsts.setdefault(same, finding) is finding:
+            kept.append(finding)
+        else:
+            more.setdefault(id(firsts[same]), []).append(finding)
+    return kept, more
+
+
+def text_of_more(others: List[Finding], lines: Dict[int, Lines]) -> str:
+    """How many findings are like one, and where the last of them is."""
+    if not others:
+        return ""
+    last = others[-1]
+    return f"    {len(others)} more of this, the last at {shown(last.source.name)}:{lines_of(last.source, lines).line_of(last.start) + 1} (--each prints a line for each)\n"
 
 
 def text_for_people(finding: Finding, lines: Lines, remedies: Remedies) -> str:

@@ -4,6 +4,7 @@ from __future__ import annotations
 
 import bisect
 import difflib
+import re
 import unicodedata
 from collections import Counter, defaultdict
 from functools import cached_property
@@ -22,6 +23,8 @@ ALIKE = str.maketrans({**dict.fromkeys("\xad\u2010\u2011\u2012\u2013\u2014\u2212
 LEAST_ALIKE, LEAST_PAIRS = 0.8, 0.4
 # How many letters a name has at most for which another one is looked for; how many names with a pair of its letters are looked at, and how many of these are compared letter by letter.
 MOST_LETTERS, MOST_LOOKED_AT, MOST_COMPARED = 200, 500, 10
+# The name in a `@string`, after its type.
+NAME_OF_STRING = re.compile(rb"[ \t\r\n]*[{(][ \t\r\n]*([^\x00-\x20\"#%'(),={}]+)")
 # For how many pairs the names are looked through; for more of them each name is divided into its pairs once.
 MOST_SCANS = 24
 
@@ -202,6 +205,17 @@ class Known:
     @property
     def strings(self) -> Dict[bytes, Tuple[Source, Item]]:
         return self.firsts[1]
+
+    @cached_property
+    def faulty_strings(self) -> Dict[bytes, Tuple[Source, Item]]:
+        """The first `@string` of each name, in lower case, that ends with a mistake before it defines anything."""
+        found: Dict[bytes, Tuple[Source, Item]] = {}
+        for source in self.sources:
+            for item in self.items_of(source):
+                name = None if item.slip is None or item.own_kind != b"string" else NAME_OF_STRING.match(source.text, item.kind_end)
+                if name is not None:
+                    found.setdefault(name[1].lower(), (source, item))
+        return found
 
     @cached_property
     def in_text(self) -> Dict[str, Tuple[Source, int, str]]:

@@ -52,6 +52,10 @@ SEEN = {
     "OthersInside": "put `and others` after the last name",
     "NearKey": "write `$2` in the place of `$1` in the `\\cite`, and run LaTeX",
     "OtherForm": "copy the key `$1` from the database into the `\\cite`, and run LaTeX: it looks the same as the one there, and has other bytes",
+    "NearType": "write `@$2`: the style has no function `$1`",
+    "OneOfBoth": "take `$1` or `$2` out of the entry: this style prints only one of them",
+    "FieldIsMissing": "give the entry a field `$1`: this style takes it without asking whether it is there",
+    "SecondQuote": "close the value of `$1`, which begins at $2: its second quote is missing",
     "NearString": "write `$1`, or define `$2` by `@string` above its use",
     "NearParent": "write `crossref = {$1}`",
     "NamesByCommas": "write ` and ` between two names: `$1`",
@@ -84,6 +88,7 @@ TWO_EQUALS = "take out one of the two `=` after `$1`"
 # What a run says of a citation whose key is empty.
 NO_PARENT = "no database has the entry `$1`: write it below all entries that name it, or take the field `crossref` out"
 UNSEEN_SIGN = "write the key of the entry once more, without its character that nobody sees: `$1`"
+OF_MERGE = "take out what git has written for a conflict: the lines that begin with `<<<<<<<`, `=======` and `>>>>>>>`, and one of the two versions between them"
 EMPTY_CITE = "write a key in the empty `\\cite{}`, or take it out"
 # What to do about a message where nothing more is seen: `*` is a name and `~` any other text.
 GENERAL = {
@@ -125,6 +130,7 @@ GENERAL = {
 
 NO_ENTRY = re.compile(r'I didn\'t find a database entry for "(.*)"', re.DOTALL)
 BAD_PARENT = re.compile(r'A bad cross reference--entry ".*" refers to entry "(.*)", which doesn\'t exist', re.DOTALL)
+ONE_OF_BOTH = re.compile(r"can't use both (\w+) and (\w+) fields")
 NO_STRING = re.compile(r'string name "(.*)" is undefined', re.DOTALL)
 TOO_MANY_COMMAS = re.compile(r'Too many commas in name [0-9]+ of "(.*)"', re.DOTALL)
 VARIES = re.compile(r"([*~])")
@@ -144,6 +150,8 @@ OF_OTHER_TYPES = {"booktitle": ["journal"], "journal": ["booktitle"], "school": 
 # What comes after a last name, and what stands after a name and is no part of it; front/src/doubts.rs and explain/names.rs have the same.
 SUFFIX = re.compile(r"(?i:jr|sr)\.?|III?|IV")
 DEGREES = ("PhD", "Ph.D.", "Ph.D", "MD", "M.D.", "MSc", "Dr.", "Prof.")
+# What git writes before, between and after the two versions of a conflict.
+MERGE_SIGNS = (b"<<<<<<<", b"=======", b">>>>>>>", b"|||||||")
 # Letters that look like digits.
 DIGITS = str.maketrans("OolI", "0011")
 MONTH = re.compile(rb"(?i:jan|feb|mar|apr|may|jun|jul|aug|sep|oct|nov|dec)")
@@ -231,7 +239,8 @@ def of_bad_parent(text: str, keys: Names) -> Optional[str]:
     if found is not None and not found[1]:
         return "write the key of the parent, or take the field `crossref` out"
     near = keys.other_form(found[1]) or keys.nearest(found[1]) if found else None
-    if found is None or not near:
+    # (no entry is its own parent)
+    if found is None or not near or text.startswith(f'A bad cross reference--entry "{near}" '):
         return None if found is None else said(NO_PARENT, found[1])
     is_there = near.lower() == found[1].lower()
     return f"move `{near}` below all entries that name it, or cite it" if is_there else said(SEEN["NearParent"], near)
@@ -329,7 +338,10 @@ def words_of(warning: str) -> List[str]:
 
 
 def missed_field(item: Item, warning: str) -> Optional[str]:
-    """What to do about a field that a style misses, where another one of the entry may be meant by it."""
+    """What to do about a field that a style misses, where another one of the entry may be meant by it; and about two of which it prints one."""
+    both = ONE_OF_BOTH.match(warning)
+    if both is not None:
+        return said(SEEN["OneOfBoth"], both[1], both[2])
     fields = item.records.names_between(item.at + 1, item.last)
     unusual = [] if all(map(bytes.isascii, fields)) else [name for name in map(word, fields) if not name.isascii()]
     for missed in words_of(warning.lower().rsplit(" in ", 1)[0]):
@@ -430,6 +442,8 @@ class Slipped:
         if not name or following is None:
             return None
         more = following[0]
+        if name.startswith(MERGE_SIGNS) or more.startswith(MERGE_SIGNS):
+            return OF_MERGE
         if name[-1:] in FOR_EQUALS:
             return said(SEEN["OtherForEquals"], word(name[:-1]), word(name[-1:]))
         if len(more) == 1 and more in FOR_EQUALS:
@@ -450,9 +464,23 @@ class Slipped:
             return None
         return said(TWO_EQUALS if here == b"=" else SEEN["NoValue"], word(name))
 
+    def in_value(self) -> Optional[str]:
+        """The braces of a value don't match, since its second quote is missing."""
+        begin = self.text.rfind(b"=", self.item.start, self.place) + 1
+        while begin > 0:
+            value = WHITE.match(self.text, begin, self.place).end()  # type: ignore[union-attr]
+            name = last_name(self.text[max(self.item.start, begin - MOST_OF_LINE) : begin - 1])
+            if self.text[value : value + 1] == b'"' and name and self.text.find(b'"', value + 1, self.place) < 0:
+                return said(SEEN["SecondQuote"], word(name), self.at(value))
+            before = self.text.rfind(b"=", max(self.item.start, begin - MOST_OF_LINE), begin - 1) + 1
+            begin = before if before > 0 else 0
+        return None
+
     def before_name(self) -> Optional[str]:
         """A name is expected, of a field or a string: it stands in quotes, or a comment or a second comma does there."""
         here, quoted = self.text[self.place : self.place + 1], QUOTED.match(self.text, self.place)
+        if self.text.startswith(MERGE_SIGNS, self.place):
+            return OF_MERGE
         if quoted is not None:
             return said(QUOTED_NAME, word(quoted[1]))
         if not self.item.is_entry:
@@ -583,6 +611,8 @@ def of_mistake(name: str, text: bytes, lines: Lines, item: Item) -> Optional[str
         found = slipped.before_name()
     elif error == "I was expecting a value":
         found = slipped.before_value()
+    elif error == "Unbalanced braces":
+        found = slipped.in_value()
     return found or general(error)
 
 

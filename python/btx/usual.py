@@ -5,6 +5,8 @@ from __future__ import annotations
 from functools import lru_cache
 from typing import Dict, FrozenSet, Iterable, List, Optional, Tuple
 
+from .spelling import nearest
+
 __all__ = ["ALONE", "EITHER", "FIELDS", "OF_BIBLATEX", "REQUIRED", "missing_fields", "near_field", "near_type"]
 
 # The fields that BibTeX's manual (btxdoc) requires of each type; of those with a bar one is enough.
@@ -116,4 +118,4 @@ def near_field(name: bytes) -> Optional[bytes]:
 @lru_cache(maxsize=1000)
 def near_type(kind: str) -> Optional[str]:
     """The type of the usual styles that is meant by one that they don't have: of biblatex, or misspelt."""
-    return OF_BIBLATEX.get(kind) or near(kind, TABLE)
+    return OF_BIBLATEX.get(kind) or near(kind, TABLE) or nearest(kind, TABLE)

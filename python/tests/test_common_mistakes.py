@@ -4,7 +4,9 @@ import pathlib
 import tempfile
 import unittest
 
+from btx.bibtext import read
 from btx.doctor import Source, examine
+from btx.field_missing import field_missing
 from btx.searching import found_search
 from tests.spoilt import run_module
 
@@ -13,6 +15,7 @@ FUNCTION {output} { write$ newline$ }
 FUNCTION {article} { journal empty$ { "empty journal in " cite$ * warning$ } { journal output } if$ title output }
 FUNCTION {phdthesis} { school empty$ { "empty school in " cite$ * warning$ } { school output } if$ }
 FUNCTION {misc} { title output }
+FUNCTION {book} { author num.names$ pop$ title output }
 FUNCTION {default.type} { misc }
 READ
 ITERATE {call.type$}
@@ -36,6 +39,16 @@ ROWS = (
     (b"@article{k, title={T}}, journal={J}}", b"k", "d.bib:1:10: warning: empty journal in k (k) [logged-warning]",
      "`journal` stands after the entry's end (d.bib:1): take out the brace before it that ends the entry too early"),
     (b"@phdthesis{k, title={T}, university={MIT}}", b"k", "d.bib:1:12: warning: empty school in k (k) [logged-warning]", "call it `school`, as entries of this type have it: `university` doesn't count here"),
+    (b"@misc{k, title={T}, crossref={m}}", b"k", "d.bib:1:21: error: A bad cross reference--entry \"k\" refers to entry \"m\", which doesn't exist (k) [logged-error]",
+     "no database has the entry `m`: write it below all entries that name it, or take the field `crossref` out"),
+    (b"@misc{lee1985, title={T}, crossref={lee1986}}", b"lee1985", "d.bib:1:27: error: A bad cross reference--entry \"lee1985\" refers to entry \"lee1986\", which doesn't exist (lee1985) [logged-error]",
+     "no database has the entry `lee1986`: write it below all entries that name it, or take the field `crossref` out"),
+    (b"@string{jj = \"A Journal}\n@misc{k, title = jj}", b"k", "d.bib:1:24: error: Unbalanced braces [mistake]", "close the value of `jj`, which begins at d.bib:1: its second quote is missing"),
+    (b"@string{jj = \"A Journal}\n@misc{k, title = jj}", b"k", "d.bib:2:18: warning: string name \"jj\" is undefined (k) [undefined-string]", "mend the `@string` of `jj` (d.bib:1) first: it has a mistake, so it defines nothing"),
+    (b"@misc{k, note = {N}, title = \"A Title, year = {2000}}", b"k", "d.bib:1:53: error: Unbalanced braces (k) [mistake]", "close the value of `title`, which begins at d.bib:1: its second quote is missing"),
+    (b"@artical{k, title={T}}", b"k", "d.bib:1:1: warning: entry type for \"k\" isn't style-file defined (k) [unknown-type]", "write `@article`: the style has no function `artical`"),
+    (b"@misc{k, title={T},\n<<<<<<< HEAD\n year=2000,\n=======\n year=2001,\n>>>>>>> x\n}", b"k", "d.bib:2:9: error: I was expecting an = (k) [mistake]",
+     "take out what git has written for a conflict: the lines that begin with `<<<<<<<`, `=======` and `>>>>>>>`, and one of the two versions between them"),
     (b"", b"k", "j.aux:1:11: warning: I didn't find a database entry for \"k\" (k) [no-entry]", "write the entry: d.bib has none at all"),
     (b"@misc{k, title={T}, month = January}", b"k", "d.bib:1:29: warning: string name \"January\" is undefined (k) [undefined-string]", "write `jan`, or define `January` by `@string` above its use"),
 )
@@ -58,6 +71,17 @@ class Mistakes(unittest.TestCase):
                 # (what is no ASCII is printed as a question mark at most)
                 self.assertEqual(lines[lines.index(line) + 1], f"    what to do: {remedy}")
 
+    def test_what_one_edit_mends_is_said_once(self):
+        database, aux = b"@misc{k, title = jj}\n@misc{l, title = jj}\n@misc{m, title = JJ}\n@misc{n, title = jj}\n", b"\\citation{k,l,m,n}\n\\bibdata{d}\n\\bibstyle{s}\n"
+        define = "    what to do: define `{}` by `@string` above its use, or put braces or quotes round a text"
+        self.assertEqual(said(database, aux).splitlines(), [
+            'd.bib:1:18: warning: string name "jj" is undefined (k) [undefined-string]', define.format("jj"), "    2 more of this, the last at d.bib:4 (--each prints a line for each)",
+            'd.bib:3:18: warning: string name "JJ" is undefined (m) [undefined-string]', define.format("JJ"),
+        ])
+        lines = said("@misc{k, title = {T}}\n@misc{l, title = {T}}\n".encode("utf16"), aux)
+        self.assertEqual(lines.count("save d.bib as UTF-8: it is in UTF-16"), 2)
+        self.assertEqual(lines.count(" more of this, the last at "), 2)
+
     def test_a_key_with_a_space_is_the_one_error(self):
         lines = said(b"@misc{my key, title = {T}}", b"\\citation{my key}\n\\bibdata{d}\n\\bibstyle{s}\n")
         self.assertIn("White space in argument", lines)
@@ -78,6 +102,13 @@ class Mistakes(unittest.TestCase):
         self.assertEqual(seen(b"@comment{@misc{b}\n@misc{c}}\n@misc{d}\n"), ["b", "c"])
         self.assertEqual(seen(b"@comment{ an unclosed one\n@misc{b}\n@misc{c}\n@comment{@misc{d}\n"), ["d"])
         self.assertEqual(seen(b"@comment\n@misc{b}\n@comment(@misc{c})\n"), ["c"])
+
+    def test_a_field_that_the_style_takes_unasked(self):
+        """Which one it is, is tried; of a style of one's own the style is to blame."""
+        fields = [b"title", b"author", b"year"]
+        for database, wanted in ((b"@book{k, title = {T}}", "author"), (b"@string{s = {S}} @book{k, title = s,} @book{l}", "author"), (b"@book{k, author = {A}}", None), (b"@misc{k, author = {A}}", None)):
+            item = next(item for item in read(database).items if item.key == b"k")
+            self.assertEqual(field_missing(STYLE, database, item, fields), wanted, database)
 
     def test_letters_of_html(self):
         rows = (("Salt &amp; Pepper", "`\\&`"), ("Caf&eacute;", "`é`"), ("Caf&#233;", "`é`"), ("a &lt; b", "`$<$`"), ("1&ndash;2", "`--`"))
