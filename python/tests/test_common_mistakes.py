@@ -106,7 +106,7 @@ class Mistakes(unittest.TestCase):
     def test_a_field_that_the_style_takes_unasked(self):
         """Which one it is, is tried; of a style of one's own the style is to blame."""
         fields = [b"title", b"author", b"year"]
-        for database, wanted in ((b"@book{k, title = {T}}", "author"), (b"@string{s = {S}} @book{k, title = s,} @book{l}", "author"), (b"@book{k, author = {A}}", None), (b"@misc{k, author = {A}}", None)):
+        for database, wanted in ((b"@book{k, title = {T}}", "author"), (b"@string{s = {S}} @book{k, title = s,} @book{l}", "author"), (b"@book{k, author = {A}}", "title"), (b"@misc{k, author = {A}}", None)):
             item = next(item for item in read(database).items if item.key == b"k")
             self.assertEqual(field_missing(STYLE, database, item, fields), wanted, database)
 
