@@ -4,6 +4,8 @@ from __future__ import annotations
 
 import argparse
 import difflib
+import glob
+import itertools
 import json
 import os
 import re
@@ -36,6 +38,8 @@ BIBDATA = re.compile(rb"(?m)^\\bibdata\{([^}\r\n \t]*)\}\r?$")
 MISSING = re.compile("(?:.* warns where )?the field (.*) is missing")
 BEGINS_FIELDS = re.compile(rb"(?im)^[ \t]*entry\b")
 MOST_AUX = 1000
+# How many files are named that may be meant.
+MOST_NEAR = 3
 NO_STYLE = re.compile(r"I couldn't open style file (.*)\.bst", re.DOTALL)
 # How much of two names of a field is the same where one may be meant by the other.
 LEAST_ALIKE = 0.75
@@ -129,6 +133,8 @@ def check_up(given: argparse.Namespace) -> int:
     unknown = sorted(off - set(CHECKS))
     if unknown:
         raise Refused(f"there is no check {unknown[0]}: --list prints them")
+    if given.job is not None:
+        check_job(given.job)
     # (where neither a style nor a job is named, TeX's folders aren't looked through)
     search = Search() if given.style is None and given.job is None else found_search()
     sources = [Source(path, content_of(os.fsencode(path), MOST_BYTES)) for path in given.databases or databases_of(given.job, search)]
@@ -139,6 +145,15 @@ def check_up(given: argparse.Namespace) -> int:
     print_findings(found, Remedies(sources, in_use, read_ones, given.job), given)
     sys.stdout.flush()
     return STATUS_MISTAKES if any(finding.severity == "error" for finding in found) else 0
+
+
+def check_job(job: str) -> None:
+    """Says where the `.aux` file of a job is, where it isn't there but in a folder below."""
+    top = job if job.endswith(".aux") else job + ".aux"
+    if not os.path.exists(top):
+        folder, name = os.path.split(glob.escape(top))
+        below = sorted(itertools.islice(glob.iglob(os.path.join(folder, "*", name)), MOST_NEAR))
+        raise Refused(f"there is no file {top}" + (f": is it {shown(below[0])}?" if below else ""))
 
 
 def findings_of(job: Optional[str], sources: List[Source], in_use: Optional[StyleFile], search: Search, kept: Dict[int, Database]) -> Tuple[List[Finding], List[Source]]:
@@ -402,8 +417,19 @@ class Remedies:
             return said(SEEN["FileIsUtf16"], in_utf16)
         if not self.known.entries and self.sources:
             return f"write the entry: {', '.join(source.name for source in self.sources)} has none at all"
+        faulty = self.behind_mistake(finding.key)
+        if faulty is not None:
+            return faulty
         item = self.known.without_key
         return general if item is None else said(SEEN["EntryOfNoKey"], item.kind.decode("utf8", "replace"), finding.key)
+
+    def behind_mistake(self, key: str) -> Optional[str]:
+        """What to do about an entry that is there and isn't read, since the one above it has a mistake."""
+        found = self.known.behind_mistakes.get(key.lower())
+        if found is None:
+            return None
+        source, mistake, place = found
+        return f"mend the mistake in {source.name}:{self.known.line_of(source, mistake)} first: because of it the entry in line {self.known.line_of(source, place)} isn't read"
 
     by_check: Dict[str, Callable[..., Optional[str]]] = {
         "mistake": of_mistake,
@@ -496,9 +522,30 @@ def databases_of(job: str, search: Search) -> List[str]:
     if not paths:
         from .several_lists import remedy_of_units
 
-        several = None if names else remedy_of_units(next(aux_files(job)))
-        raise Refused(f"{job} names no database: {several}" if several else f"{job} names no database that is there: name one")
+        top = next(aux_files(job))
+        several = None if names else said(SEEN["OfBiblatex"], job_of(top.name)) if b"\\abx@aux@" in top.text else remedy_of_units(top)
+        there = f", such as {', '.join(shown(path) for path in databases_near(top.name))}" if databases_near(top.name) else ""
+        raise Refused(f"{job} names no database: {several}" if several else f"{job} names no database that is there: name one{there}")
     return paths
+
+
+def job_of(aux: str) -> str:
+    """The name of a job, by that of its `.aux` file."""
+    return aux[: -len(".aux")] if aux.endswith(".aux") else aux
+
+
+def databases_near(path: str) -> List[str]:
+    """Some databases in the folder of a file, or in those directly below it."""
+    return near_files(os.path.dirname(path), ".bib")
+
+
+def near_files(folder: str, ending: str) -> List[str]:
+    """Some files in a folder whose names end so; where there is none, those in the folders directly below."""
+    for pattern in ("*", os.path.join("*", "*")):
+        found = sorted(itertools.islice(glob.iglob(os.path.join(glob.escape(folder), pattern + ending)), MOST_AUX))[:MOST_NEAR]
+        if found:
+            return found
+    return []
 
 
 def aux_files(job: str) -> Iterator[Source]:

@@ -21,6 +21,8 @@ CITATION = re.compile(rb"\\citation\{(.*?)\}?\r?\n?\Z", re.DOTALL)
 # What to do: the names are a key and a sign.
 WRITE = "write `{}` in the `\\cite`, and run LaTeX: TeX reads the `{}` there as a command"
 RENAME = "give the entry a key without the `{1}`, such as `{0}`, write that in the `\\cite`, and run LaTeX: TeX takes the sign for one of its own"
+NO_SPACE = "write `{}` in the `\\cite` without the space before or after it, and run LaTeX"
+WITHOUT_SPACE = "write the key without a space, such as `{}`, in the `\\cite` and in the database, and run LaTeX"
 WITHOUT = "cite a key of letters and digits of ASCII: in this one TeX reads a command, as in `~`, in `\\_` and in a letter with an accent"
 
 
@@ -58,4 +60,11 @@ def remedy_of_key(argument: str, keys: Names) -> Optional[str]:
 def remedy_of_line(line: bytes, keys: Names) -> Optional[str]:
     """What to do about a line of an `.aux` file whose citation can't be read: LaTeX has written a command into it."""
     found = CITATION.match(line)
-    return None if found is None else remedy_of_key(found[1].decode("utf8", "surrogateescape"), keys)
+    if found is None:
+        return None
+    argument = found[1].decode("utf8", "surrogateescape")
+    of_tex = remedy_of_key(argument, keys)
+    if of_tex is not None or len(argument.split()) == 0:
+        return of_tex
+    key = argument.strip(" \t")
+    return NO_SPACE.format(key) if keys.has(key) else WITHOUT_SPACE.format("".join(argument.split()))

@@ -25,6 +25,8 @@ LEAST_ALIKE, LEAST_PAIRS = 0.8, 0.4
 MOST_LETTERS, MOST_LOOKED_AT, MOST_COMPARED = 200, 500, 10
 # The name in a `@string`, after its type.
 NAME_OF_STRING = re.compile(rb"[ \t\r\n]*[{(][ \t\r\n]*([^\x00-\x20\"#%'(),={}]+)")
+# How an entry begins, with its key.
+BEGINS_ENTRY = re.compile(rb"@[ \t]*[A-Za-z]+[ \t]*[{(][ \t]*([^\s,{}()]+)[ \t\r\n]*,")
 # For how many pairs the names are looked through; for more of them each name is divided into its pairs once.
 MOST_SCANS = 24
 
@@ -215,6 +217,17 @@ class Known:
                 name = None if item.slip is None or item.own_kind != b"string" else NAME_OF_STRING.match(source.text, item.kind_end)
                 if name is not None:
                     found.setdefault(name[1].lower(), (source, item))
+        return found
+
+    @cached_property
+    def behind_mistakes(self) -> Dict[str, Tuple[Source, int, int]]:
+        """The entries that aren't read since an item above them goes on over their beginning, by their keys: the database, the place of that item's mistake, and where the entry begins."""
+        found: Dict[str, Tuple[Source, int, int]] = {}
+        for source in self.sources:
+            for item in self.items_of(source):
+                if item.slip is not None and not item.is_repeated:
+                    for entry in BEGINS_ENTRY.finditer(source.text, item.start + 1, self.next_start(source, item)):
+                        found.setdefault(text_of(entry[1]).lower(), (source, item.slip.place, entry.start()))
         return found
 
     @cached_property

@@ -52,6 +52,7 @@ SEEN = {
     "OthersInside": "put `and others` after the last name",
     "NearKey": "write `$2` in the place of `$1` in the `\\cite`, and run LaTeX",
     "OtherForm": "copy the key `$1` from the database into the `\\cite`, and run LaTeX: it looks the same as the one there, and has other bytes",
+    "MonthsInOne": "join two names by `#`: `$1 # \"--\" # $2`",
     "NearType": "write `@$2`: the style has no function `$1`",
     "OneOfBoth": "take `$1` or `$2` out of the entry: this style prints only one of them",
     "FieldIsMissing": "give the entry a field `$1`: this style takes it without asking whether it is there",
@@ -228,6 +229,8 @@ def of_no_entry(text: str, keys: Names) -> Optional[str]:
         return said(SEEN["SemicolonInCite"], ",".join(pair))
     if has_key(key.split(";"), keys):
         return said(SEEN["SemicolonInCite"], ",".join(part.strip() for part in key.split(";") if part.strip()))
+    if key == "all" and not near:
+        return "write `*` for `all` in the `\\nocite`, if all entries are meant, and run LaTeX"
     if near and as_seen(near) != near:
         return said(UNSEEN_SIGN, as_seen(near))
     return said(SEEN["NearKey"], key, near) if near else None
@@ -259,6 +262,9 @@ def of_no_string(text: str, strings: Names) -> Optional[str]:
         return said(SEEN["BareCommand"], name)
     if number:
         return said(SEEN["LetterForDigit"], *number)
+    parts = re.split("[-/]", name, maxsplit=1)
+    if len(parts) == 2 and all(map(strings.has, parts)):
+        return said(SEEN["MonthsInOne"], *parts)
     return said(SEEN["NearString"], near, name) if near else None
 
 

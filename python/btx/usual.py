@@ -118,4 +118,4 @@ def near_field(name: bytes) -> Optional[bytes]:
 @lru_cache(maxsize=1000)
 def near_type(kind: str) -> Optional[str]:
     """The type of the usual styles that is meant by one that they don't have: of biblatex, or misspelt."""
-    return OF_BIBLATEX.get(kind) or near(kind, TABLE) or nearest(kind, TABLE)
+    return None if kind in TABLE else OF_BIBLATEX.get(kind) or near(kind, TABLE) or nearest(kind, TABLE)

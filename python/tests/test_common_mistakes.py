@@ -49,6 +49,11 @@ ROWS = (
     (b"@artical{k, title={T}}", b"k", "d.bib:1:1: warning: entry type for \"k\" isn't style-file defined (k) [unknown-type]", "write `@article`: the style has no function `artical`"),
     (b"@misc{k, title={T},\n<<<<<<< HEAD\n year=2000,\n=======\n year=2001,\n>>>>>>> x\n}", b"k", "d.bib:2:9: error: I was expecting an = (k) [mistake]",
      "take out what git has written for a conflict: the lines that begin with `<<<<<<<`, `=======` and `>>>>>>>`, and one of the two versions between them"),
+    (b"@misc{m, title={T},\n\n@misc{k, title={T}}\n", b"k", "j.aux:1:11: warning: I didn't find a database entry for \"k\" (k) [no-entry]", "mend the mistake in d.bib:3 first: because of it the entry in line 3 isn't read"),
+    (b"@misc{k, title={T}, month = jan-feb}", b"k", "d.bib:1:29: warning: string name \"jan-feb\" is undefined (k) [undefined-string]", "join two names by `#`: `jan # \"--\" # feb`"),
+    (b"@misc{k, title={T}}", b"all", "j.aux:1:11: warning: I didn't find a database entry for \"all\" (all) [no-entry]", "write `*` for `all` in the `\\nocite`, if all entries are meant, and run LaTeX"),
+    (b"@misc{k, title={T}}", b"k ", "j.aux:1:1: error: White space in argument [logged-error]", "write `k` in the `\\cite` without the space before or after it, and run LaTeX"),
+    (b"@misc{my key, title={T}}", b"my key", "j.aux:1:1: error: White space in argument [logged-error]", "write the key without a space, such as `mykey`, in the `\\cite` and in the database, and run LaTeX"),
     (b"", b"k", "j.aux:1:11: warning: I didn't find a database entry for \"k\" (k) [no-entry]", "write the entry: d.bib has none at all"),
     (b"@misc{k, title={T}, month = January}", b"k", "d.bib:1:29: warning: string name \"January\" is undefined (k) [undefined-string]", "write `jan`, or define `January` by `@string` above its use"),
 )
@@ -70,6 +75,21 @@ class Mistakes(unittest.TestCase):
                 self.assertIn(line, lines)
                 # (what is no ASCII is printed as a question mark at most)
                 self.assertEqual(lines[lines.index(line) + 1], f"    what to do: {remedy}")
+
+    def test_files_that_are_elsewhere(self):
+        rows = (
+            ({"build/j.aux": b"\\citation{k}\n"}, "btx: there is no file j.aux: is it build/j.aux?\n"),
+            ({"j.aux": b"\\citation{k}\n\\bibdata{literature}\n\\bibstyle{s}\n", "refs.bib": b""}, "btx: there is no database literature.bib\nbtx: j names no database that is there: name one, such as refs.bib\n"),
+            ({"j.aux": b"\\citation{k}\n\\bibdata{literature}\n\\bibstyle{s}\n", "bib/literature.bib": b""}, "btx: there is no database literature.bib\nbtx: j names no database that is there: name one, such as bib/literature.bib\n"),
+            ({"j.aux": b"\\relax\n\\abx@aux@cite{0}{k}\n"}, "btx: j names no database: run `biber j` in the place of BibTeX, or give `biblatex` the option `backend=bibtex` and run LaTeX\n"),
+        )
+        for files, wanted in rows:
+            with self.subTest(list(files)), tempfile.TemporaryDirectory() as room:
+                for name, text in files.items():
+                    pathlib.Path(room, name).parent.mkdir(exist_ok=True)
+                    pathlib.Path(room, name).write_bytes(text)
+                done = run_module("doctor", "--job", "j", cwd=room)
+                self.assertEqual((done.returncode, done.stdout, done.stderr.decode()), (1, b"", wanted))
 
     def test_what_one_edit_mends_is_said_once(self):
         database, aux = b"@misc{k, title = jj}\n@misc{l, title = jj}\n@misc{m, title = JJ}\n@misc{n, title = jj}\n", b"\\citation{k,l,m,n}\n\\bibdata{d}\n\\bibstyle{s}\n"
@@ -106,7 +126,7 @@ class Mistakes(unittest.TestCase):
     def test_a_field_that_the_style_takes_unasked(self):
         """Which one it is, is tried; of a style of one's own the style is to blame."""
         fields = [b"title", b"author", b"year"]
-        for database, wanted in ((b"@book{k, title = {T}}", "author"), (b"@string{s = {S}} @book{k, title = s,} @book{l}", "author"), (b"@book{k, author = {A}}", "title"), (b"@misc{k, author = {A}}", None)):
+        for database, wanted in ((b"@book{k, title = {T}}", "author"), (b"@string{s = {S}} @book{k, title = s,} @book{l}", "author"), (b"@book{k, author = {A}}", "title"), (b"@misc{k, title = {T}}", None)):
             item = next(item for item in read(database).items if item.key == b"k")
             self.assertEqual(field_missing(STYLE, database, item, fields), wanted, database)
 

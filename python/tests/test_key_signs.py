@@ -34,7 +34,7 @@ class Keys(unittest.TestCase):
             with self.subTest(argument):
                 self.assertIn(wanted, remedy_of_line(b"\\citation{" + argument + b"}\n", KEYS))
         self.assertIn(WITHOUT, remedy_of_line(UMLAUT, KEYS))
-        self.assertIsNone(remedy_of_line(b"\\citation{e f}", KEYS))
+        self.assertIn("such as `ef`", remedy_of_line(b"\\citation{e f}", KEYS))
         self.assertIsNone(remedy_of_line(b"\\bibdata{a b}", KEYS))
 
     def test_keys_that_no_entry_has(self):
@@ -53,7 +53,7 @@ class Keys(unittest.TestCase):
         status, lines, _ = said({"book.aux": aux})
         self.assertEqual((status, [line.split(" ")[0] for line in lines.splitlines()[::2]]), (2, ["book.aux:2:1:", "book.aux:3:1:"]), lines)
         self.assertIn("what to do: write `one` in the `\\cite`, and run LaTeX: TeX reads the `~` there as a command\n", lines)
-        self.assertIn("what to do: write no space in `\\cite{..}`", lines)
+        self.assertIn("what to do: write the key without a space, such as `two`", lines)
 
 
 if __name__ == "__main__":
