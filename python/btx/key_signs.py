@@ -64,7 +64,7 @@ def remedy_of_line(line: bytes, keys: Names) -> Optional[str]:
         return None
     argument = found[1].decode("utf8", "surrogateescape")
     of_tex = remedy_of_key(argument, keys)
-    if of_tex is not None or len(argument.split()) == 0:
+    if of_tex is not None or argument.isspace() or not re.search(r"\s", argument):
         return of_tex
     key = argument.strip(" \t")
     return NO_SPACE.format(key) if keys.has(key) else WITHOUT_SPACE.format("".join(argument.split()))

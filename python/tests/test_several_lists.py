@@ -62,7 +62,7 @@ class Lists(unittest.TestCase):
         files = {"book1.aux": LIST_OF_ONE, "book2.aux": LIST_OF_TWO, "book.aux": b"\\citation{one}\n\\bibstyle{s}\n"}
         self.check(said(files), 1, "run BibTeX on `book1` and `book2`: `bibtopic` writes")
         # (another document's, which has a name like these)
-        self.assertEqual(said({**files, "book1.tex": b"", "book2.tex": b""})[2], "btx: book names no database that is there: name one\n")
+        self.assertEqual(said({**files, "book1.tex": b"", "book2.tex": b""})[2], "btx: book names no database that is there: name one, such as refs.bib\n")
 
     def test_lists_of_multibib(self):
         files = {"sec.aux": LIST_OF_ONE, "other.aux": LIST_OF_TWO, "book.aux": b"\\relax\n", "book.tex": b"\\newcites{sec}{Secondary}\n"}
