@@ -21,7 +21,7 @@ from .known import Known
 from .reading import without_collection
 from .remedies import GENERAL, OF_OTHER_TYPES, SEEN, begins_item, begins_month, field_for_each_name, missed_field, not_hidden, of_items, of_missing, remedy_of, said
 from .searching import MOST_BYTES, Search, content_of, found_search
-from .usual import FIELDS, OF_BIBLATEX, REQUIRED, near_type
+from .usual import FIELDS, OF_BIBLATEX, REQUIRED, near_field, near_type
 
 if TYPE_CHECKING:
     from .bsttext import Word
@@ -40,6 +40,8 @@ BEGINS_FIELDS = re.compile(rb"(?im)^[ \t]*entry\b")
 MOST_AUX = 1000
 # How many files are named that may be meant.
 MOST_NEAR = 3
+# What a style warns of a field that an entry lacks, in the words of the usual ones.
+EMPTY = re.compile("(?:empty|missing) ([a-z]+) in ")
 NO_STYLE = re.compile(r"I couldn't open style file (.*)\.bst", re.DOTALL)
 # How much of two names of a field is the same where one may be meant by the other.
 LEAST_ALIKE = 0.75
@@ -153,7 +155,8 @@ def check_job(job: str) -> None:
     if not os.path.exists(top):
         folder, name = os.path.split(glob.escape(top))
         below = sorted(itertools.islice(glob.iglob(os.path.join(folder, "*", name)), MOST_NEAR))
-        raise Refused(f"there is no file {top}" + (f": is it {shown(below[0])}?" if below else ""))
+        if below:
+            raise Refused(f"there is no file {top}: is it {shown(below[0])}?")
 
 
 def findings_of(job: Optional[str], sources: List[Source], in_use: Optional[StyleFile], search: Search, kept: Dict[int, Database]) -> Tuple[List[Finding], List[Source]]:
@@ -366,7 +369,19 @@ class Remedies:
         item = self.known.around(finding.source, finding.start)
         if item is None or item.key_end != finding.end:
             return None
-        return missed_field(item, finding.text) or self.after_end(finding, item, lines)
+        return missed_field(item, finding.text) or self.after_end(finding, item, lines) or self.of_empty(item, finding.text)
+
+    def of_empty(self, item: Item, warning: str) -> Optional[str]:
+        """What to do about a field that a style finds empty: another one is misspelt, or it is missing in the entry or its parent."""
+        found = EMPTY.match(warning)
+        if found is None:
+            return None
+        fields = item.records.names_between(item.at + 1, item.last)
+        misspelt = next((name for name in fields if near_field(name) == found[1].encode()), None)
+        if misspelt is not None:
+            return said(SEEN["OtherField"], shown(misspelt.decode("utf8", "replace")), found[1])
+        parent = self.known.entries.get((item.value_of(b"crossref") or b"").strip().lower())
+        return None if found[1].encode() in fields else of_missing(item, found[1], None if parent is None else parent[1])
 
     def after_end(self, finding: Finding, item: Item, lines: Lines) -> Optional[str]:
         """What to do about a field that a style misses and that stands after the entry's end."""

@@ -10,11 +10,13 @@ from btx.field_missing import field_missing
 from btx.searching import found_search
 from tests.spoilt import run_module
 
-STYLE = b"""ENTRY { author title journal year school note } {} {}
+STYLE = b"""ENTRY { author title booktitle journal year school note } {} {}
 FUNCTION {output} { write$ newline$ }
 FUNCTION {article} { journal empty$ { "empty journal in " cite$ * warning$ } { journal output } if$ title output }
 FUNCTION {phdthesis} { school empty$ { "empty school in " cite$ * warning$ } { school output } if$ }
 FUNCTION {misc} { title output }
+FUNCTION {inproceedings} { booktitle empty$ { "empty booktitle in " cite$ * warning$ } { booktitle output } if$ }
+FUNCTION {proceedings} { misc }
 FUNCTION {book} { author num.names$ pop$ title output }
 FUNCTION {default.type} { misc }
 READ
@@ -54,6 +56,10 @@ ROWS = (
     (b"@misc{k, title={T}}", b"all", "j.aux:1:11: warning: I didn't find a database entry for \"all\" (all) [no-entry]", "write `*` for `all` in the `\\nocite`, if all entries are meant, and run LaTeX"),
     (b"@misc{k, title={T}}", b"k ", "j.aux:1:1: error: White space in argument [logged-error]", "write `k` in the `\\cite` without the space before or after it, and run LaTeX"),
     (b"@misc{my key, title={T}}", b"my key", "j.aux:1:1: error: White space in argument [logged-error]", "write the key without a space, such as `mykey`, in the `\\cite` and in the database, and run LaTeX"),
+    (b"@article{k, title={T}}", b"k", "d.bib:1:10: warning: empty journal in k (k) [logged-warning]", "add `journal` to the entry"),
+    (b"@article{k, title={T}, jounral={J}}", b"k", "d.bib:1:10: warning: empty journal in k (k) [logged-warning]", "call it `journal`, as entries of this type have it: `jounral` doesn't count here"),
+    (b"@inproceedings{k, title={T}, crossref={p}}\n@proceedings{p, title={Proc. of X}}", b"k", "d.bib:1:16: warning: empty booktitle in k (k) [logged-warning]",
+     "add `booktitle = {Proc. of X}` to the parent: an entry takes only fields of the same name from it"),
     (b"", b"k", "j.aux:1:11: warning: I didn't find a database entry for \"k\" (k) [no-entry]", "write the entry: d.bib has none at all"),
     (b"@misc{k, title={T}, month = January}", b"k", "d.bib:1:29: warning: string name \"January\" is undefined (k) [undefined-string]", "write `jan`, or define `January` by `@string` above its use"),
 )
