@@ -12,6 +12,7 @@ from __future__ import annotations
 import bisect
 import itertools
 import re
+from functools import cached_property
 from typing import Dict, FrozenSet, Iterator, List, NamedTuple, Optional, Set, Tuple
 
 from .library import read_records
@@ -28,6 +29,8 @@ REPEATED = "Repeated entry"
 # How often the rest of a database is read once more since other strings are defined before it; the bytes of the first piece that is.
 MOST_AGAIN = 50
 LEAST_PIECE = 512
+# How many bytes of a text are looked through at most to count the line ends before a place.
+BLOCK = 2048
 
 SKIPS_WHITE = re.compile(rb"[ \t\r\n]*")
 NAME = rb"[^\x00- \"#%'(),={}0-9][^\x00- \"#%'(),={}]*"
@@ -138,23 +141,40 @@ def opened(text: bytes, place: int) -> int:
 
 
 class Lines:
-    """The lines of a text, numbered from 0."""
+    """The lines of a text, numbered from 0. Their ends are counted block by block: a place has those of the blocks before its own, and the few of its own."""
 
     def __init__(self, text: bytes) -> None:
         self.text = text
-        # (a line has the bytes between line feeds, and one)
-        self.starts = [0, *itertools.accumulate(map((1).__add__, map(len, text.split(b"\n")[:-1])))]
+        # How many line ends are before each block.
+        self.sums = [0, *itertools.accumulate(text.count(b"\n", start, start + BLOCK) for start in range(0, len(text), BLOCK))]
         # A line, a place on it, and the characters before that.
         self.passed = 0, 0, 0
 
+    @cached_property
+    def starts(self) -> List[int]:
+        """Where the lines begin."""
+        # (a line has the bytes between line feeds, and one)
+        return [0, *itertools.accumulate(map((1).__add__, map(len, self.text.split(b"\n")[:-1])))]
+
     def line_of(self, place: int) -> int:
-        return bisect.bisect_right(self.starts, place) - 1
+        block = place // BLOCK
+        return self.sums[block] + self.text.count(b"\n", block * BLOCK, place)
+
+    def start_of_line(self, place: int) -> int:
+        """The first byte of the line that a place is on: after the last line end of its block before it, or of the nearest block above that has one."""
+        block = place // BLOCK
+        found = self.text.rfind(b"\n", block * BLOCK, place)
+        if found < 0 and self.sums[block]:
+            above = bisect.bisect_left(self.sums, self.sums[block]) - 1
+            found = self.text.rfind(b"\n", above * BLOCK, (above + 1) * BLOCK)
+        return found + 1
 
     def at(self, place: int, is_end: bool = False) -> Tuple[int, int]:
         """The line of a place, and how many characters of UTF-8 are before it on its line. A byte that is none counts as one. They are counted once, where places are asked for in
         their order, beside those that are ends."""
-        line = self.line_of(place)
-        _, at, column = self.passed if self.passed[0] == line and self.passed[1] <= place else (line, self.starts[line], 0)
+        block = place // BLOCK
+        line = self.sums[block] + self.text.count(b"\n", block * BLOCK, place)
+        _, at, column = self.passed if self.passed[0] == line and self.passed[1] <= place else (line, self.start_of_line(place), 0)
         column += len(self.text[at:place].decode("utf8", "surrogateescape"))
         if not is_end and self.text[place : place + 1] not in CONTINUES:
             self.passed = line, place, column

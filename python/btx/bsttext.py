@@ -1,7 +1,8 @@
 """The text of a style: what it defines and uses, with places. docs/RULES.md has its rules, under Styles.
 
 This is no second reader of styles: the mistakes are those that the library logs. It looks for what a person would look for, so that one mistake doesn't
-hide what follows: a command's word at the beginning of a line begins a command, whatever the braces above say."""
+hide what follows: a command's word at the beginning of a line begins a command, whatever the braces above say. Only a field or a variable may be called READ or SORT: where the next
+brace closes one, the word is a name."""
 
 from __future__ import annotations
 
@@ -15,6 +16,8 @@ COMMANDS = ("ENTRY", "EXECUTE", "FUNCTION", "INTEGERS", "ITERATE", "MACRO", "REA
 SPACE = re.compile(rb"[ \t\r\n]*(?:%[^\n]*(?:[ \t\r\n]+|%[^\n]*)*|)")
 LETTERS = re.compile(rb"[A-Za-z]+")
 BEGINS_LINE = re.compile(rb"(?im)^(?:ENTRY|EXECUTE|FUNCTION|INTEGERS|ITERATE|MACRO|REVERSE|STRINGS)[ \t\r\n]*\{|^(?-i:READ|SORT)[ \t\r]*$")
+# What is before the next brace, which is in no comment and in no string.
+NEXT_BRACE = re.compile(rb"(?:[^{}%\"]+|%[^\n]*|\"[^\"\n]*\"?)*([{}]|\Z)")
 TOKEN = re.compile(rb"[{}]|\"[^\"\n]*\"?|#-?[0-9]+|'?[^ \t\r\n}%\"][^ \t\r\n}%]*|'|\"")
 # The same after what lies before it, or the end of the text; since one of them is always there, it never goes back into a comment.
 NEXT_TOKEN = re.compile(SPACE.pattern + b"(" + TOKEN.pattern + rb"|\Z)")
@@ -73,13 +76,37 @@ def read_style(text: bytes) -> StyleText:
 
 def uses_between(text: bytes, start: int, end: int) -> List[Word]:
     """The names that a style uses between two places. Only the commands around them are read."""
-    at = text.rfind(b"\n", 0, start) + 1
-    while at > 0 and BEGINS_LINE.match(text, at) is None:
+    at, braces = text.rfind(b"\n", 0, start) + 1, Braces(text)
+    while at > 0 and not braces.begins_command(BEGINS_LINE.match(text, at)):
         at = text.rfind(b"\n", 0, at - 1) + 1
     reader = StyleReader(text, at)
     while reader.at < end:
         reader.command()
     return [word for word in reader.found.uses if start <= word.start < end]
+
+
+class Braces:
+    """The braces of a style. The one that was found last is kept, since many places may be before it."""
+
+    def __init__(self, text: bytes) -> None:
+        self.text = text
+        self.known = 0, -1
+
+    def next(self, place: int) -> int:
+        """The first brace after a place; the end of the text where there is none."""
+        first, brace = self.known
+        if not first <= place <= brace:
+            found = self.from_to(place, first) if place < first else first
+            brace = found if found < first else brace if place < first else self.from_to(place, len(self.text))
+            self.known = place, brace
+        return brace
+
+    def from_to(self, place: int, end: int) -> int:
+        return NEXT_BRACE.match(self.text, place, end).start(1)  # type: ignore[union-attr]
+
+    def begins_command(self, found: "Optional[re.Match[bytes]]") -> bool:
+        """Whether what begins a line is a command's word: READ and SORT have no braces of their own, so they are names where a brace is closed after them."""
+        return found is not None and (found[0].endswith(b"{") or not self.text.startswith(b"}", self.next(found.end())))
 
 
 class StyleReader:
@@ -90,6 +117,7 @@ class StyleReader:
         self.at = at
         self.found = StyleText()
         self.next_line = -1
+        self.braces = Braces(text)
 
     def skip_space(self) -> None:
         self.at = SPACE.match(self.text, self.at).end()  # type: ignore[union-attr]
@@ -97,7 +125,7 @@ class StyleReader:
     def limit(self) -> int:
         """Where the next command begins at the latest."""
         if self.next_line < self.at:
-            found = BEGINS_LINE.search(self.text, self.at)
+            found = next(filter(self.braces.begins_command, BEGINS_LINE.finditer(self.text, self.at)), None)
             self.next_line = len(self.text) if found is None else found.start()
         return self.next_line
 

@@ -4,6 +4,8 @@ from __future__ import annotations
 
 import argparse
 import difflib
+import glob
+import itertools
 import json
 import os
 import re
@@ -11,14 +13,15 @@ import sys
 from functools import cached_property, partial
 from typing import TYPE_CHECKING, Callable, Dict, FrozenSet, Iterator, List, NamedTuple, Optional, Set, Tuple
 
-from .bibtext import REPEATED, Database, Lines
+from .bibtext import REPEATED, Database, Item, Lines
 from .commands import STATUS_DEVICE, STATUS_REFUSED, Words, broken_pipe, in_words, shown, stem_of
-from .doctor import CHECKS, Citation, Elsewhere, Finding, Source, Style, examine, lines_of, without_unread
+from .doctor import CHECKS, LOOKS_LIKE_FIELD, Citation, Elsewhere, Finding, Source, Style, examine, lines_of, without_unread
+from .key_signs import remedy_of_line
 from .known import Known
 from .reading import without_collection
-from .remedies import GENERAL, SEEN, begins_item, begins_month, field_for_each_name, missed_field, not_hidden, of_items, of_missing, remedy_of, said
+from .remedies import GENERAL, OF_OTHER_TYPES, SEEN, begins_item, begins_month, field_for_each_name, missed_field, not_hidden, of_items, of_missing, remedy_of, said
 from .searching import MOST_BYTES, Search, content_of, found_search
-from .usual import FIELDS, near_type
+from .usual import FIELDS, OF_BIBLATEX, REQUIRED, near_field, near_type
 
 if TYPE_CHECKING:
     from .bsttext import Word
@@ -35,10 +38,22 @@ BIBDATA = re.compile(rb"(?m)^\\bibdata\{([^}\r\n \t]*)\}\r?$")
 MISSING = re.compile("(?:.* warns where )?the field (.*) is missing")
 BEGINS_FIELDS = re.compile(rb"(?im)^[ \t]*entry\b")
 MOST_AUX = 1000
+# How many files are named that may be meant.
+MOST_NEAR = 3
+# What a style warns of a field that an entry lacks, in the words of the usual ones.
+EMPTY = re.compile("(?:empty|missing) ([a-z]+) in ")
+NO_STYLE = re.compile(r"I couldn't open style file (.*)\.bst", re.DOTALL)
 # How much of two names of a field is the same where one may be meant by the other.
 LEAST_ALIKE = 0.75
 # How many entries that nothing cites are named in the line for all.
 MOST_NAMED = 5
+# Fields with an address of the web; letters after a key that make it another one.
+ADDRESSES = ("doi", "url")
+NEW_LETTERS = [bytes([letter]) for letter in range(ord("b"), ord("z") + 1)]
+# How a file in UTF-16 begins.
+BEGINS_UTF16 = (b"\xff\xfe", b"\xfe\xff")
+# What doesn't tell titles.
+NOT_TITLE = bytes(byte for byte in range(128) if not chr(byte).isalnum())
 # How many findings are printed at once.
 AT_ONCE = 1000
 # What the run of a job says itself, as far as it counts there.
@@ -50,7 +65,6 @@ OF_CHECKS = {
     "repeated-doi": "keep one of the two entries, and cite that one",
     "repeated-title": "keep one of the two entries, if they are one work",
     "empty-field": "fill it in, or take it out",
-    "unknown-type": "take a type that the style has, such as `misc`",
     "all-entries": "take `\\nocite{*}` out, where the list is to have only what is cited, and run LaTeX",
     "older-aux": "run LaTeX, then BibTeX",
     "others-inside": SEEN["OthersInside"],
@@ -101,7 +115,7 @@ def parser() -> argparse.ArgumentParser:
     result.add_argument("--style", metavar="S", help="the style: which fields, types and strings it has")
     result.add_argument("--job", metavar="J", help="the .aux file of a document: which entries it cites")
     result.add_argument("--json", action="store_true", help="print a line of JSON for each finding")
-    result.add_argument("--each", action="store_true", help="print a line for each entry that nothing cites, and not one for all")
+    result.add_argument("--each", action="store_true", help="print a line for each entry that nothing cites, and for each use of an undefined string, and not one for all")
     result.add_argument("--off", metavar="NAME,..", default="", help="checks that are left out")
     result.add_argument("--list", action="store_true", help="print the checks, and how exact each is")
     return result
@@ -121,6 +135,8 @@ def check_up(given: argparse.Namespace) -> int:
     unknown = sorted(off - set(CHECKS))
     if unknown:
         raise Refused(f"there is no check {unknown[0]}: --list prints them")
+    if given.job is not None:
+        check_job(given.job)
     # (where neither a style nor a job is named, TeX's folders aren't looked through)
     search = Search() if given.style is None and given.job is None else found_search()
     sources = [Source(path, content_of(os.fsencode(path), MOST_BYTES)) for path in given.databases or databases_of(given.job, search)]
@@ -128,9 +144,19 @@ def check_up(given: argparse.Namespace) -> int:
     read_ones: Dict[int, Database] = {}
     found, sources = findings_of(given.job, sources, in_use, search, read_ones)
     found = without_unread([finding for finding in found if finding.check not in off])
-    print_findings(found, Remedies(sources, in_use, read_ones), given)
+    print_findings(found, Remedies(sources, in_use, read_ones, given.job), given)
     sys.stdout.flush()
     return STATUS_MISTAKES if any(finding.severity == "error" for finding in found) else 0
+
+
+def check_job(job: str) -> None:
+    """Says where the `.aux` file of a job is, where it isn't there but in a folder below."""
+    top = job if job.endswith(".aux") else job + ".aux"
+    if not os.path.exists(top):
+        folder, name = os.path.split(glob.escape(top))
+        below = sorted(itertools.islice(glob.iglob(os.path.join(folder, "*", name)), MOST_NEAR))
+        if below:
+            raise Refused(f"there is no file {top}: is it {shown(below[0])}?")
 
 
 def findings_of(job: Optional[str], sources: List[Source], in_use: Optional[StyleFile], search: Search, kept: Dict[int, Database]) -> Tuple[List[Finding], List[Source]]:
@@ -152,7 +178,8 @@ def findings_of(job: Optional[str], sources: List[Source], in_use: Optional[Styl
     of_document, newer = findings_of_documents(documents_of(job), citations, entries)
     own_style = in_use.path if in_use is not None and in_use.is_of_job and in_use.is_own else None
     logged = findings_of_run(job, sources, auxes, citations, search, own_style)
-    found = without_consequences(found + of_document + logged.findings, logged.is_whole)
+    of_types = {(id(it.source), it.start) for it in found if it.check == "unknown-type"}
+    found = without_consequences(found + of_document + [it for it in logged.findings if it.check != "unknown-type" or (id(it.source), it.start) not in of_types], logged.is_whole)
     order = {id(source): number for number, source in enumerate(sources)}
     found = [finding for finding in found if finding.check != "uncited" or finding.key not in newer]
     return sorted(found, key=lambda finding: (order.get(id(finding.source), -1), finding.start, finding.end)), sources
@@ -172,9 +199,10 @@ def without_consequences(found: List[Finding], is_whole: bool) -> List[Finding]:
 class Remedies:
     """What to do about findings. What findings share is found once."""
 
-    def __init__(self, sources: List[Source], style: Optional[StyleFile] = None, databases: Optional[Dict[int, Database]] = None) -> None:
+    def __init__(self, sources: List[Source], style: Optional[StyleFile] = None, databases: Optional[Dict[int, Database]] = None, job: Optional[str] = None) -> None:
         self.sources = sources
         self.style = style
+        self.job = job
         self.known = Known(sources, databases)
         self.of_places: Dict[int, Dict[int, str]] = {}
         self.kept: Dict[Tuple[object, ...], Optional[str]] = {}
@@ -194,6 +222,14 @@ class Remedies:
             return make(self, finding, lines)
         return of_aux(finding) or remedy_of(finding.text, self.known.keys if finding.key else ())
 
+    def same_as(self, finding: Finding) -> Optional[Tuple[object, ...]]:
+        """What findings have in common that one edit mends: a string that isn't defined, a file in another encoding, a database without an entry."""
+        if finding.check == "undefined-string":
+            return finding.check, id(finding.source), finding.text
+        if finding.check == "mistake" and finding.source.text[:2] in BEGINS_UTF16:
+            return finding.check, id(finding.source)
+        return (finding.check,) if finding.check == "no-entry" and not self.known.entries else None
+
     def of_mistake(self, finding: Finding, lines: Lines) -> Optional[str]:
         number = id(finding.source)
         if number not in self.of_places:
@@ -212,6 +248,14 @@ class Remedies:
         near = near_type(text_at(finding)[1:].lower())
         return f"write `@{near}`" if near else "write a type of BibTeX's, such as `@misc`"
 
+    def of_unknown_type(self, finding: Finding, lines: Lines) -> str:
+        """What to do about a type that a style doesn't have."""
+        kind = text_at(finding)[1:].strip().lower()
+        near = near_type(kind)
+        if kind in OF_BIBLATEX and near:
+            return said(SEEN["OfBiblatexType"], kind, near)
+        return said(SEEN["NearType"], kind, near) if near else "take a type that the style has, such as `misc`"
+
     def of_parent(self, finding: Finding, lines: Lines) -> str:
         return f"move {finding.text.split()[2]} below all entries that name it, or cite it"
 
@@ -223,12 +267,23 @@ class Remedies:
         if found is None:
             return hidden or GENERAL[REPEATED]
         its, first = found
-        return f"{GENERAL[REPEATED]}: the first is {begins_item(its.name, its.text, lines if its is source else lines_of(its, self.known.lines), first)}"
+        item = self.known.around(source, finding.start)
+        words = None if item is None else self.of_other_work(item, first)
+        return f"{words + ';' if words else GENERAL[REPEATED] + ':'} the first is {begins_item(its.name, its.text, lines if its is source else lines_of(its, self.known.lines), first)}"
+
+    def of_other_work(self, item: Item, first: Item) -> Optional[str]:
+        """What to do about a second entry of a key whose title is another one."""
+        titles = [title_of(it) for it in (item, first)]
+        if not all(titles) or titles[0].startswith(titles[1]) or titles[1].startswith(titles[0]):
+            return None
+        key = item.key or b""
+        new = next((key + letter for letter in NEW_LETTERS if (key + letter).lower() not in self.known.entries), None)
+        return None if new is None else said(SEEN["OtherWork"], shown(new.decode("utf8", "surrogateescape")))
 
     def of_hidden(self, finding: Finding, lines: Lines) -> Optional[str]:
         """What to do about an entry that was meant to be hidden."""
         item = self.known.around(finding.source, finding.start)
-        return None if item is None else not_hidden(finding.source.name, finding.source.text, lines, item)
+        return None if item is None else said(SEEN["NotHidden"], begins_item(finding.source.name, finding.source.text, lines, item))
 
     def of_missing(self, finding: Finding, lines: Lines) -> Optional[str]:
         """What to do about a field that an entry lacks, and its parent as well."""
@@ -236,9 +291,12 @@ class Remedies:
         item = self.known.around(finding.source, finding.start)
         if item is None:
             return None
-        parent = (item.value_of(b"crossref") or b"").strip().lower()
-        its = self.known.entries.get(parent) if parent else None
-        return of_missing(item, found[1] if found else "", None if its is None else its[1])
+        names, fields = "" if found is None else found[1], tuple(item.records.names_between(item.at + 1, item.last))
+        if b"crossref" in fields or b"date" in fields:
+            parent = self.known.entries.get((item.value_of(b"crossref") or b"").strip().lower())
+            return of_missing(item, names, None if parent is None else parent[1])
+        # (the names of its fields tell all)
+        return self.once(partial(of_missing, item, names, None), names, fields)
 
     def of_unread(self, finding: Finding, lines: Lines) -> Optional[str]:
         name = text_at(finding).lower()
@@ -247,7 +305,7 @@ class Remedies:
     def unread(self, name: str) -> str:
         """What to do about a field that the style doesn't read: its own author may have meant the field by a name that no usual field has."""
         if self.style is None or not self.style.is_own:
-            return "leave it, or take a style that reads it"
+            return said(SEEN["UnprintedAddress"], name) if name in ADDRESSES else "leave it, or take a style that reads it"
         definitions, lines = self.style_fields
         alike = difflib.get_close_matches(name, [word.name for word in definitions if word.name.encode() not in FIELDS], 1, LEAST_ALIKE)
         if alike:
@@ -271,6 +329,11 @@ class Remedies:
 
     def of_unprinted(self, finding: Finding, lines: Lines) -> Optional[str]:
         kind, other = re.findall("`@(.*?)`", finding.text)[-2:]
+        item = self.known.around(finding.source, finding.start)
+        lost = text_at(finding).lower()
+        meant = next((name for name, others in OF_OTHER_TYPES.items() if lost in others and (name.encode(),) in REQUIRED.get(kind.encode(), ())), None)
+        if item is not None and meant is not None and item.value_of(meant.encode()) is None:
+            return said(SEEN["OtherField"], lost, meant)
         return self.once(lambda: self.unprinted(kind, other), "unprinted", kind, other)
 
     def unprinted(self, kind: str, other: str) -> str:
@@ -285,6 +348,9 @@ class Remedies:
         name = finding.source.text[finding.start : finding.end].lower()
         source, item = self.known.strings.get(name, (None, None))
         if source is None or item is None:
+            its, faulty = self.known.faulty_strings.get(name, (None, None))
+            if its is not None and faulty is not None:
+                return f"mend the `@string` of `{name.decode('utf8', 'replace')}` ({its.name}:{self.known.line_of(its, faulty.start)}) first: it has a mistake, so it defines nothing"
             may_be_month = self.is_in_month(finding) or begins_month(name.decode("utf8", "replace"))
             return remedy_of(finding.text, strings=self.known.names if may_be_month else self.known.names_beside_months)
         if source is finding.source:
@@ -301,13 +367,56 @@ class Remedies:
     def of_warning(self, finding: Finding, lines: Lines) -> Optional[str]:
         """What to do about a style's warning of an entry."""
         item = self.known.around(finding.source, finding.start)
-        return missed_field(item, finding.text) if item is not None and item.key_end == finding.end else None
+        if item is None or item.key_end != finding.end:
+            return None
+        return missed_field(item, finding.text) or self.after_end(finding, item, lines) or self.of_empty(item, finding.text)
+
+    def of_empty(self, item: Item, warning: str) -> Optional[str]:
+        """What to do about a field that a style finds empty: another one is misspelt, or it is missing in the entry or its parent."""
+        found = EMPTY.match(warning)
+        if found is None:
+            return None
+        fields = item.records.names_between(item.at + 1, item.last)
+        misspelt = next((name for name in fields if near_field(name) == found[1].encode()), None)
+        if misspelt is not None:
+            return said(SEEN["OtherField"], shown(misspelt.decode("utf8", "replace")), found[1])
+        parent = self.known.entries.get((item.value_of(b"crossref") or b"").strip().lower())
+        return None if found[1].encode() in fields else of_missing(item, found[1], None if parent is None else parent[1])
+
+    def after_end(self, finding: Finding, item: Item, lines: Lines) -> Optional[str]:
+        """What to do about a field that a style misses and that stands after the entry's end."""
+        fields = LOOKS_LIKE_FIELD.finditer(finding.source.text, item.end, self.known.next_start(finding.source, item))
+        found = next((it for it in fields if shown(it[1].decode("latin1")).lower() in finding.text.lower().split()), None)
+        if found is None:
+            return None
+        return f"`{shown(found[1].decode('latin1'))}` stands after the entry's end ({finding.source.name}:{lines.line_of(found.start(1)) + 1}): take out the brace before it that ends the entry too early"
 
     def of_logged(self, finding: Finding, lines: Lines) -> Optional[str]:
         """What to do about an error that a run of the job logs."""
         from .document_checks import remedy_by_document
+        from .several_lists import remedy_of_lists
 
-        return of_aux(finding) or remedy_by_document(finding.text, finding.source.name) or remedy_of(finding.text, self.known.keys if finding.key else ())
+        if finding.text == "White space in argument" or finding.text == 'No "}"':
+            of_key = remedy_of_line(finding.source.text[finding.start : finding.end], self.known.keys)
+            if of_key is not None:
+                return of_key
+        if finding.text == "missing field is not a string" and finding.key:
+            return self.once(lambda: self.of_field_missing(finding), finding.text, finding.key)
+        of_style = of_style_name(finding.text)
+        if of_style is not None:
+            return of_style
+        several = None if self.job is None else remedy_of_lists(finding.text, list(aux_files(self.job)))
+        return several or of_aux(finding) or remedy_by_document(finding.text, finding.source.name) or remedy_of(finding.text, self.known.keys if finding.key else ())
+
+    def of_field_missing(self, finding: Finding) -> Optional[str]:
+        """What to do about a field that the style takes without asking whether it is there."""
+        from .field_missing import field_missing
+
+        item = self.known.around(finding.source, finding.start)
+        if item is None or self.style is None or self.printing is None:
+            return None
+        name = field_missing(self.style.text, finding.source.text, item, self.printing.fields)
+        return None if name is None else said(SEEN["FieldIsMissing"], name)
 
     def of_entry(self, finding: Finding, lines: Lines) -> Optional[str]:
         """What to do about a citation without an entry: one without a key may be meant."""
@@ -318,8 +427,24 @@ class Remedies:
         if in_text is not None:
             source, place, kind = in_text
             return f"write `@` before `{kind}` ({source.name}:{self.known.line_of(source, place)})"
+        in_utf16 = next((source.name for source in self.sources if source.text[:2] in BEGINS_UTF16), None)
+        if not self.known.entries and in_utf16 is not None:
+            return said(SEEN["FileIsUtf16"], in_utf16)
+        if not self.known.entries and self.sources:
+            return f"write the entry: {', '.join(source.name for source in self.sources)} has none at all"
+        faulty = self.behind_mistake(finding.key)
+        if faulty is not None:
+            return faulty
         item = self.known.without_key
         return general if item is None else said(SEEN["EntryOfNoKey"], item.kind.decode("utf8", "replace"), finding.key)
+
+    def behind_mistake(self, key: str) -> Optional[str]:
+        """What to do about an entry that is there and isn't read, since the one above it has a mistake."""
+        found = self.known.behind_mistakes.get(key.lower())
+        if found is None:
+            return None
+        source, mistake, place = found
+        return f"mend the mistake in {source.name}:{self.known.line_of(source, mistake)} first: because of it the entry in line {self.known.line_of(source, place)} isn't read"
 
     by_check: Dict[str, Callable[..., Optional[str]]] = {
         "mistake": of_mistake,
@@ -327,6 +452,7 @@ class Remedies:
         "not-hidden": of_hidden,
         "repeated-field": of_repeated_field,
         "unusual-type": of_type,
+        "unknown-type": of_unknown_type,
         "missing-field": of_missing,
         "missed-field": of_missing,
         "missing-in-parent": of_missing,
@@ -338,6 +464,19 @@ class Remedies:
         "logged-warning": of_warning,
         "no-entry": of_entry,
     }
+
+
+def title_of(item: Item) -> bytes:
+    """The letters and digits of an entry's title; empty where it has none."""
+    return (item.value_of(b"title") or b"").lower().translate(None, NOT_TITLE)
+
+
+def of_style_name(text: str) -> Optional[str]:
+    """What to do about a style that isn't there, where one is whose name differs in its case."""
+    found = NO_STYLE.fullmatch(text)
+    name = found[1] if found else ""
+    is_there = name != name.lower() and found_search().path_of(os.fsencode(name.lower() + ".bst")) is not None
+    return f"write `{name.lower()}` for `{name}` in the `\\bibliographystyle`, and run LaTeX: names of files have their case" if is_there else None
 
 
 def text_at(finding: Finding) -> str:
@@ -396,8 +535,32 @@ def databases_of(job: str, search: Search) -> List[str]:
             print(f"btx: there is no database {shown(os.fsdecode(name))}", file=sys.stderr)
     paths = [os.fsdecode(path[2:] if path.startswith(b"./") else path) for _, path in found if path is not None]
     if not paths:
-        raise Refused(f"{job} names no database that is there: name one")
+        from .several_lists import remedy_of_units
+
+        top = next(aux_files(job))
+        several = None if names else said(SEEN["OfBiblatex"], job_of(top.name)) if b"\\abx@aux@" in top.text else remedy_of_units(top)
+        there = f", such as {', '.join(shown(path) for path in databases_near(top.name))}" if databases_near(top.name) else ""
+        raise Refused(f"{job} names no database: {several}" if several else f"{job} names no database that is there: name one{there}")
     return paths
+
+
+def job_of(aux: str) -> str:
+    """The name of a job, by that of its `.aux` file."""
+    return aux[: -len(".aux")] if aux.endswith(".aux") else aux
+
+
+def databases_near(path: str) -> List[str]:
+    """Some databases in the folder of a file, or in those directly below it."""
+    return near_files(os.path.dirname(path), ".bib")
+
+
+def near_files(folder: str, ending: str) -> List[str]:
+    """Some files in a folder whose names end so; where there is none, those in the folders directly below."""
+    for pattern in ("*", os.path.join("*", "*")):
+        found = sorted(itertools.islice(glob.iglob(os.path.join(glob.escape(folder), pattern + ending)), MOST_AUX))[:MOST_NEAR]
+        if found:
+            return found
+    return []
 
 
 def aux_files(job: str) -> Iterator[Source]:
@@ -419,12 +582,13 @@ def aux_files(job: str) -> Iterator[Source]:
 
 def cited_elsewhere(auxes: List[Source], sources: List[Source]) -> FrozenSet[bytes]:
     """The keys, in lower case, that other `.aux` files of the job's folder cite from one of these databases: packages such as multibib and bibunits have several for a document."""
-    folder = os.path.dirname(auxes[0].name)
+    from .several_lists import aux_beside
+
     own, stems = {aux.name for aux in auxes}, {stem_of(source.name) for source in sources}
-    names = sorted(name for name in os.listdir(folder or os.curdir) if name.endswith(".aux"))
-    others = [path for path in (os.path.join(folder, name) for name in names[:MOST_AUX]) if path not in own and os.path.isfile(path)]
-    found = (aux for aux in (Source(path, content_of(os.fsencode(path), MOST_BYTES)) for path in others) if not stems.isdisjoint(named_databases(aux.text)))
-    return frozenset(citation.key.lower() for aux in found for citation in citations_of(aux.name))
+    trees = [list(aux_files(aux.name)) for aux in aux_beside(auxes[0].name) if aux.name not in own]
+    # (a file that reads others may leave it to them to name the databases)
+    found = (tree for tree in trees if not stems.isdisjoint(name for aux in tree for name in named_databases(aux.text)))
+    return frozenset(citation.key.lower() for tree in found for aux in tree for citation in citations_of_file(aux))
 
 
 def named_databases(aux: bytes) -> List[str]:
@@ -463,13 +627,41 @@ def print_findings(found: List[Finding], remedies: Remedies, given: argparse.Nam
     summed = [] if given.json or given.each else [finding for finding in found if finding.check == "uncited"]
     shown_ones = [finding for finding in found if finding.check != "uncited"] if summed else found
     text_of = json_of if given.json else text_for_people
+    more: Dict[int, List[Finding]] = {}
+    if not given.json and not given.each:
+        shown_ones, more = folded(shown_ones, remedies)
     # (many lines are printed at once)
     for first in range(0, len(shown_ones), AT_ONCE):
-        sys.stdout.write("".join([text_of(finding, lines_of(finding.source, lines), remedies) for finding in shown_ones[first : first + AT_ONCE]]))
+        texts = [text_of(finding, lines_of(finding.source, lines), remedies) for finding in shown_ones[first : first + AT_ONCE]]
+        for at, finding in enumerate(shown_ones[first : first + AT_ONCE]) if more else ():
+            texts[at] += text_of_more(more.get(id(finding), []), lines)
+        sys.stdout.write("".join(texts))
     if summed:
         names = ", ".join(finding.key for finding in summed[:MOST_NAMED]) + (", .." if len(summed) > MOST_NAMED else "")
         entries = "1 entry is" if len(summed) == 1 else f"{len(summed)} entries are"
         print(f"{entries} {shown(summed[0].text)}: {shown(names)} (--each prints a line for each) [uncited]")
+
+
+def folded(found: List[Finding], remedies: Remedies) -> Tuple[List[Finding], Dict[int, List[Finding]]]:
+    """The findings without those that the same edit mends as an earlier one; and of that one, by its `id`, these others."""
+    firsts: Dict[Tuple[object, ...], Finding] = {}
+    kept: List[Finding] = []
+    more: Dict[int, List[Finding]] = {}
+    for finding in found:
+        same = remedies.same_as(finding)
+        if same is None or firsts.setdefault(same, finding) is finding:
+            kept.append(finding)
+        else:
+            more.setdefault(id(firsts[same]), []).append(finding)
+    return kept, more
+
+
+def text_of_more(others: List[Finding], lines: Dict[int, Lines]) -> str:
+    """How many findings are like one, and where the last of them is."""
+    if not others:
+        return ""
+    last = others[-1]
+    return f"    {len(others)} more of this, the last at {shown(last.source.name)}:{lines_of(last.source, lines).line_of(last.start) + 1} (--each prints a line for each)\n"
 
 
 def text_for_people(finding: Finding, lines: Lines, remedies: Remedies) -> str:

@@ -7,7 +7,6 @@ A check that a run would log says what the run logs. The others are guesses, and
 
 from __future__ import annotations
 
-import bisect
 import itertools
 import re
 from operator import itemgetter
@@ -16,11 +15,11 @@ from typing import TYPE_CHECKING, Any, Dict, FrozenSet, Iterable, Iterator, List
 from .accents import accents_in, has_accents
 from .bibtext import ENDS_TEXT, Database, Field, Item, Lines, field_of, read, undefined_strings
 from .checks import CHECKS, SAID, Check
-from .doubts import AS_COMMENT, ENTRY_IN_TEXT, INITIAL_BEFORE_COMMA, OTHER_SPACE, SIGN, STRAY_AND, SUFFIX_LAST, TEXTS, TWO_WORDS, Persons, has_words, list_in_braces, lost_words
-from .doubts import lowered_tokens, may_lose, names_by_commas, sign_by_names, sign_of_tex, stray_and, suffix_last, what_for_hyphens
+from .doubts import AS_COMMENT, ENTRY_IN_TEXT, INITIAL_BEFORE_COMMA, OTHER_SPACE, SIGN, STRAY_AND, SUFFIX_LAST, TEXTS, TWO_WORDS, Persons, has_words, hide_braces, list_in_braces, lost_words
+from .doubts import lowered_tokens, may_lose, names_by_commas, sign_by_names, sign_of_tex, spans_of_names, stray_and, suffix_last, what_for_hyphens
+from .key_signs import SIGN_OF_TEX, UNSEEN, as_seen, plain_key
 from .reading import ENTRY, PREAMBLE, STRING, without_collection
 from .usual import ALONE, EITHER, FIELDS, REQUIRED, missing_fields, near_field
-from .values import BRACE
 
 if TYPE_CHECKING:
     from .bsttext import StyleText
@@ -48,9 +47,11 @@ ORGANIZATIONS = (
     "academy association bureau center centers centre centres collaboration college commission committee consortium corporation council department federation foundation group institut institute institution laboratories laboratory"
     " ministerium ministry ministère organisation organization society universidad universidade universiteit universitet university università universität université universitat verein"
 ).split()
-OF_ORGANIZATIONS = re.compile(rb"(?<![^ \t\r\n~])(?:%s),?(?![^ \t\r\n~])" % "|".join(ORGANIZATIONS).encode(), re.IGNORECASE)
+# The same, which the front end doesn't have so far.
+UNIONS = "alliance gesellschaft union verband".split()
+OF_ORGANIZATIONS = re.compile(rb"(?<![^ \t\r\n~])(?:%s),?(?![^ \t\r\n~])" % "|".join((*ORGANIZATIONS, *UNIONS)).encode(), re.IGNORECASE)
 # The same words, among those of a text in lower case that are parted by spaces.
-WORDS_OF_ORGANIZATIONS = frozenset(word.encode() for word in ORGANIZATIONS)
+WORDS_OF_ORGANIZATIONS = frozenset(word.encode() for word in (*ORGANIZATIONS, *UNIONS))
 TO_SPACES = bytes.maketrans(b"\t\r\n~,", b"     ")
 # A dollar sign, and what has none of its own: what has a backslash before it, and an address.
 DOLLAR = re.compile(rb"\\(?:url|path|nolinkurl|href)[ \t\r\n]*\{[^{}]*\}|\\.|\$", re.DOTALL)
@@ -58,8 +59,7 @@ DOLLAR = re.compile(rb"\\(?:url|path|nolinkurl|href)[ \t\r\n]*\{[^{}]*\}|\\.|\$"
 NO_TEXTS = frozenset(b"abstract annote bdsk-file-1 bdsk-url-1 biburl doi eprint file keywords url".split())
 # A word that may be taken as von: it begins outside ASCII, and its first letter of ASCII is a small one.
 VON = re.compile(rb"(?:^|[ \t\r\n~,-])[\x80-\xff][^A-Za-z \t\r\n~,-]*[a-z]")
-# The word that parts names; a word of a name.
-PARTS_NAMES = re.compile(rb"[ \t\r\n]and(?=[ \t\r\n])", re.IGNORECASE)
+# A word of a name.
 NAME_PARTS = re.compile(rb"[ \t\r\n~]+")
 NAME_WORD = re.compile(rb"[^ \t\r\n~,-]+")
 LEAST_TITLE = 12
@@ -71,12 +71,13 @@ OF_DATE = re.compile(rb"[0-9]{4}")
 # The types whose titles styles such as plain write in small letters; how many words that lose them are named.
 LOWERED = frozenset(b"article conference inbook incollection inproceedings mastersthesis misc techreport unpublished".split())
 MOST_LOST = 4
-# Braces with what is in them, if that has none; how deep braces are in most texts.
-IN_BRACES = re.compile(rb"\{[^{}]*\}")
-MOST_DEPTH = 3
 # All bytes but the signs at which LaTeX may stop.
 NO_SIGN = bytes(byte for byte in range(256) if byte not in b"_&^%#")
 NONE: FrozenSet[bytes] = frozenset()
+LINE_END = ord("\n")
+OPENS_BRACE = re.compile(rb"[ \t\r\n]*\{")
+# Fields in which an address of the web is printed, also where a style doesn't read `url`.
+PRINTS_ADDRESS = frozenset((b"howpublished", b"note"))
 
 
 class Source(NamedTuple):
@@ -219,6 +220,9 @@ class Examiner:
         self.strings = self.database.strings
         self.fields_after = {}
         items = self.database.items
+        if items:
+            # (each entry asks for those of its fields)
+            items[0].records.make_names()
         self.text_between(0, items[0].start if items else len(source.text))
         self.encoding()
         self.examine_items(items, len(source.text), known)
@@ -307,6 +311,8 @@ class Examiner:
             numbers = self.first_of_each(item, names)
         if self.style is not None:
             self.unread(item, self.style, numbers)
+        if SIGN_OF_TEX.search(item.key or b"") or not (item.key or b"").isascii():
+            self.key_of(item)
         if self.printing is not None and item.slip is None:
             self.unprinted(item, self.printing, numbers)
         kind = item.kind
@@ -348,6 +354,15 @@ class Examiner:
         start = item.records.starts[number]
         return start, start + item.records.name_len[number]
 
+    def key_of(self, item: Item) -> None:
+        """Says which sign of a key TeX reads otherwise, and which one nobody sees."""
+        key = item.key or b""
+        of_tex, unseen = SIGN_OF_TEX.search(key), UNSEEN.search(shown(key))
+        if of_tex is not None:
+            self.say("key-of-tex", item.key_end - len(key), item.key_end, key, plain_key(shown(key)), of_tex[0])
+        if unseen is not None:
+            self.say("unseen-sign", item.key_end - len(key), item.key_end, key, f"{ord(unseen[0]):04X}", as_seen(shown(key)))
+
     def unread(self, item: Item, style: Style, numbers: Dict[bytes, int]) -> None:
         """Says what of an entry the style doesn't know."""
         if item.kind not in style.types:
@@ -363,7 +378,8 @@ class Examiner:
         lost = printing.not_printed(kind, numbers, b"crossref" in numbers)
         if lost is not None:
             self.say("unprinted-field", *self.name_of(item, numbers[lost]), item.key, printing.name, lost, kind, printing.usual_type(kind, lost) or b"")
-        for name in itertools.chain(*REQUIRED.get(kind, ())) if self.style is None else ():
+        of_web = [b"url"] if kind not in REQUIRED and not PRINTS_ADDRESS & numbers.keys() else []
+        for name in itertools.chain(*REQUIRED.get(kind, ()), of_web) if self.style is None else ():
             if name in numbers and name not in printing.fields:
                 self.say("unread-field", *self.name_of(item, numbers[name]), item.key, name)
 
@@ -648,16 +664,17 @@ class Examiner:
 
     def entries_in_comments(self) -> None:
         """Says which entries are read to their ends though their line begins as a comment would."""
-        for number, source, database in self.databases:
-            self.number, self.source = number, source
-            lines = list(AS_COMMENT.finditer(source.text))
-            starts = [item.start for item in database.items] if lines else []
-            for line in lines:
-                end = source.text.find(b"\n", line.end())
-                first, last = bisect.bisect_left(starts, line.end() - 1), len(starts) if end < 0 else bisect.bisect_left(starts, end)
-                for item in database.items[first:last]:
-                    if item.is_entry and item.slip is None:
-                        self.say("not-hidden", item.start, item.kind_end, item.key)
+        for self.number, self.source, database in self.databases:
+            text, begin, last = self.source.text, 0, 0
+            # (most entries begin their lines; what is before the others on their lines is looked through once)
+            for item in [item for item in database.items if item.start and text[item.start - 1] != LINE_END]:
+                begin, last = max(begin, text.rfind(b"\n", last, item.start) + 1), item.start
+                if item.is_entry and item.slip is None and AS_COMMENT.match(text, begin, item.start):
+                    self.say("not-hidden", item.start, item.kind_end, item.key)
+            for item in entries_in_braces_of_comments(text, database.items):
+                # (one whose line begins with `@comment` is said already)
+                if not AS_COMMENT.match(text, text.rfind(b"\n", 0, item.start) + 1, item.start):
+                    self.say("not-hidden", item.start, item.kind_end, item.key)
 
     # ---- citations ----
 
@@ -693,6 +710,26 @@ EXAMINED = (
     (b"year", Examiner.year),
     (b"title", Examiner.title),
 )
+
+
+def entries_in_braces_of_comments(text: bytes, items: List[Item]) -> Iterator[Item]:
+    """The entries that stand in the braces of a `@comment`, but for those after one whose braces aren't closed."""
+    number = 0
+    while number < len(items):
+        comment, number = items[number], number + 1
+        if comment.own_kind != b"comment" or OPENS_BRACE.match(text, comment.end) is None:
+            continue
+        depth, place, inside = 0, comment.end, []
+        while number < len(items):
+            start = items[number].start
+            depth += text.count(b"{", place, start) - text.count(b"}", place, start)
+            if depth <= 0:
+                break
+            inside.append(items[number])
+            number, place = number + 1, start
+        if depth > 0 and text.count(b"}", place) - text.count(b"{", place) < depth:
+            return
+        yield from (item for item in inside if item.is_entry and item.slip is None)
 
 
 def repeated_works(works: List[Work], firsts: Dict[object, Any]) -> Iterator[Local]:
@@ -744,40 +781,6 @@ def has_others_inside(value: bytes, lowered: bytes) -> bool:
 def has_et_al(value: bytes, lowered: bytes) -> bool:
     # (first what takes less time)
     return b"al" in lowered and b"etal" in lowered.translate(None, b". ~") and ET_AL.search(value) is not None
-
-
-def hide_braces(text: bytes) -> bytes:
-    """A text in which what is in braces is dots."""
-    if b"{" not in text:
-        return text
-    hidden = text
-    for _ in range(MOST_DEPTH):
-        hidden = IN_BRACES.sub(as_dots, hidden)
-        if b"{" not in hidden:
-            return hidden.replace(b"}", b".")
-    pieces: List[bytes] = []
-    at = depth = 0
-    for found in BRACE.finditer(text):
-        end = found.end()
-        is_hidden = depth > 0 or found[0] == b"{"
-        pieces.append(text[at : found.start()] + b"." if not depth else b"." * (end - at))
-        depth = max(depth + (1 if found[0] == b"{" else -1), 0) if is_hidden else 0
-        at = end
-    pieces.append(b"." * (len(text) - at) if depth else text[at:])
-    return b"".join(pieces)
-
-
-def as_dots(found: "re.Match[bytes]") -> bytes:
-    return b"." * len(found[0])
-
-
-def spans_of_names(hidden: bytes) -> Iterator[Tuple[int, int]]:
-    """Where each name of a list begins and ends."""
-    start = 0
-    for found in PARTS_NAMES.finditer(hidden):
-        yield start, found.start()
-        start = found.end()
-    yield start, len(hidden)
 
 
 def lines_of(source: Source, known: Dict[int, Lines]) -> Lines:

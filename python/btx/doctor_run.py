@@ -20,6 +20,7 @@ __all__ = ["Logged", "findings_of_run", "has_whole_list", "in_order_of_job"]
 BIBDATA = re.compile(rb"(?m)^\\bibdata\{([^}\r\n]*)")
 BAD_PARENT = re.compile(r'A bad cross reference--entry "(.*)" refers to entry ".*", which doesn\'t exist', re.DOTALL)
 NO_ENTRY = re.compile(r'I didn\'t find a database entry for "(.*)"', re.DOTALL)
+NO_TYPE = re.compile(r'entry type for "(.*)" isn\'t style-file defined', re.DOTALL)
 NO_FILE = re.compile(r"I couldn't open (?:style|database) file (.*)\.b(?:st|ib)", re.DOTALL)
 QUOTED_NAMES = re.compile(r'[^"]*"(.*)"', re.DOTALL)
 OF_NAMES = ("Too many commas in name ", "Name ")
@@ -71,13 +72,15 @@ def findings_of_run(job: str, sources: List[Source], auxes: List[Source], citati
     placer = Placer(sources, auxes, {citation.key.lower() for citation in citations})
     faults = [] if own_style is None else [it for it in messages if is_of_style(it)]
     messages = messages if own_style is None else [it for it in messages if not is_of_style(it)]
-    seen: Set[Tuple[str, Optional[str]]] = set()
+    seen: Set[Tuple[object, ...]] = set()
     findings: List[Finding] = []
     for message in messages:
-        if message.text.startswith("I found no ") and is_cause(findings, auxes):
+        if message.text.startswith("I found no ") and (is_cause(findings, auxes) or is_unread(findings, message.text)):
             continue
-        finding = None if (message.text, message.entry) in seen else placer.finding(message)
-        seen.add((message.text, message.entry))
+        # (a citation that can't be read is another one in each line)
+        about = (message.text, message.entry, *([message.file, message.line] if message.text == "White space in argument" else []))
+        finding = None if about in seen else placer.finding(message)
+        seen.add(about)
         findings += [] if finding is None else [finding]
     findings += placer.of_faults(faults, own_style or "")
     return Logged(findings, has_whole_list(auxes, [it for it in messages if it.kind is Kind.ERROR]))
@@ -93,6 +96,12 @@ def is_cause(findings: List[Finding], auxes: List[Source]) -> bool:
     """Whether what the .aux files lack follows from an error that was found: they break off, or they are biblatex's and that was said."""
     found_no = [finding for finding in findings if finding.text.startswith("I found no ")]
     return any(finding.text == 'No "}"' for finding in findings) or bool(found_no) and any(b"\\abx@aux@" in aux.text for aux in auxes)
+
+
+def is_unread(findings: List[Finding], text: str) -> bool:
+    """Whether the command that isn't found stands in a line that can't be read."""
+    command = os.fsencode(text.split()[3]) + b"{"
+    return any(finding.text == "White space in argument" and finding.source.text.startswith(command, finding.start) for finding in findings)
 
 
 class Placer:
@@ -116,6 +125,9 @@ class Placer:
     def finding(self, message: Message) -> Optional[Finding]:
         """The finding that a message is; None where a check says it, or where it follows from another."""
         check = "logged-error" if message.kind is Kind.ERROR else "logged-warning"
+        no_type = NO_TYPE.fullmatch(message.text)
+        if no_type is not None:
+            return self.of_type(message.text, no_type[1])
         if message.file is not None:
             return self.in_aux(message, check) if message.file.endswith(".aux") else None
         if message.function is not None or message.entry is not None:
@@ -175,6 +187,11 @@ class Placer:
             return None
         source, item = found
         return Finding(source, item.key_end - len(item.key or b""), item.key_end, check, text, key)
+
+    def of_type(self, text: str, key: str) -> Optional[Finding]:
+        """A message about the type of an entry, which the style doesn't have."""
+        found = self.entries().get(key.lower())
+        return None if found is None else Finding(found[0], found[1].start, found[1].kind_end, "unknown-type", text, key)
 
     def of_field(self, text: str, key: str, names: Tuple[bytes, ...], check: str) -> Optional[Finding]:
         """A message about one of these fields of an entry: of names the one that has those which are quoted."""

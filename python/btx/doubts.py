@@ -8,9 +8,11 @@ from __future__ import annotations
 import re
 from typing import Container, Dict, Iterable, Iterator, List, NamedTuple, Optional, Set, Tuple
 
+from .values import BRACE
+
 __all__ = [
-    "AS_COMMENT", "ENTRY_IN_TEXT", "INITIAL_BEFORE_COMMA", "OTHER_SPACE", "Persons", "SIGN", "STRAY_AND", "SUFFIX_LAST", "TEXTS", "TWO_WORDS", "has_words", "list_in_braces", "lost_words", "lowered_tokens", "may_lose", "names_by_commas",
-    "sign_by_names", "sign_of_tex", "stray_and", "suffix_last", "what_for_hyphens",
+    "AS_COMMENT", "ENTRY_IN_TEXT", "INITIAL_BEFORE_COMMA", "OTHER_SPACE", "Persons", "SIGN", "STRAY_AND", "SUFFIX_LAST", "TEXTS", "TWO_WORDS", "has_words", "hide_braces", "list_in_braces", "lost_words", "lowered_tokens", "may_lose",
+    "names_by_commas", "sign_by_names", "sign_of_tex", "spans_of_names", "stray_and", "suffix_last", "what_for_hyphens",
 ]
 
 # Fields whose text LaTeX sets as text.
@@ -54,11 +56,18 @@ NAME_TOKEN = re.compile(rb"[^ \t\r\n~,]+|,")
 # A command or a formula of TeX; the commands that are letters, which lose their capitals in braces as well.
 OF_TEX = re.compile(rb"\\[A-Za-z]+|\\\((?:[^\\]|\\[^)])*\\\)|\\.|\$(?:[^$\\]|\\.)*\$", re.DOTALL)
 LETTERS = frozenset((b"\\L", b"\\O", b"\\AA", b"\\AE", b"\\OE"))
-# A line that begins as a comment would, up to an `@` in it.
-AS_COMMENT = re.compile(rb"(?mi)^[ \t]*(?:%|@comment(?![a-z]))[^\n@]*@")
+# How a line begins that is meant as a comment.
+AS_COMMENT = re.compile(rb"[ \t]*(?:%|@comment(?![a-z]))", re.IGNORECASE)
 # What looks like an entry, but for its `@`: a word, a brace, a key, and a field.
 ENTRY_IN_TEXT = re.compile(rb"(?m)^[ \t]*([A-Za-z]+)[ \t]*[{(][ \t]*([^\x00-\x20\"#%'(),={}]+)[ \t]*,\s*[A-Za-z][A-Za-z_-]*[ \t]*=")
 DASHES = {"-": "one hyphen", "\u2010": "a hyphen of its own", "\u2011": "a non-breaking hyphen", "\u2012": "a figure dash", "\u2013": "an en dash", "\u2014": "an em dash", "\u2212": "a minus sign"}
+# Braces with what is in them, if that has none; how deep braces are in most texts; where a name of a list ends.
+IN_BRACES = re.compile(rb"\{[^{}]*\}")
+MOST_DEPTH = 3
+NAMES_END = re.compile(rb"[ \t\r\n]and(?=[ \t\r\n])", re.IGNORECASE)
+# A letter that is written as in HTML, and what stands for some of them in TeX.
+HTML_LETTER = re.compile(rb"&(?:[A-Za-z]{2,8}|#[0-9]{2,6}|#[xX][0-9A-Fa-f]{2,5});")
+OF_HTML = {"&": "`\\&`", "<": "`$<$`", ">": "`$>$`", '"': "a quote of TeX, ``..''", "'": "`'`", "\xa0": "`~`", "\u2010": "`-`", "\u2013": "`--`", "\u2014": "`---`", "\u2018": "a quote of TeX, `..'", "\u2019": "`'`", "\u201c": "a quote of TeX, ``..''", "\u201d": "a quote of TeX, ``..''"}
 MOST_WORDS = 5
 LEAST_LETTERS = 3
 
@@ -82,6 +91,10 @@ def sign_of_tex(text: bytes) -> Optional[Seen]:
             first = found
     if first is None or is_formula:
         return None
+    letter = HTML_LETTER.match(text, first.start())
+    meant = None if letter is None else meant_by_letter(letter[0].decode())
+    if letter is not None and meant is not None:
+        return Seen(*letter.span(), f"write {meant} in the place of `{letter[0].decode()}`, which is a letter of HTML")
     sign = first[0].decode()
     before = text[: first.start()]
     if b"://" in before:
@@ -91,6 +104,14 @@ def sign_of_tex(text: bytes) -> Optional[Seen]:
         return Seen(*first.span(), f"write `\\{sign}`,{of_doi}: LaTeX stops at a `{sign}` outside of a formula")
     why = "takes the rest of the line for a comment" if sign == "%" else "stops at it"
     return Seen(*first.span(), f"write `\\{sign}` for the bare `{sign}`: LaTeX {why}")
+
+
+def meant_by_letter(written: str) -> Optional[str]:
+    """What stands for a letter that is written as in HTML; None where it isn't one."""
+    from html import unescape
+
+    letter = unescape(written)
+    return OF_HTML.get(letter) or (f"`{letter}`" if len(letter) == 1 and letter.isalpha() else None)
 
 
 def sign_by_names(hidden: bytes) -> Optional[Seen]:
@@ -286,3 +307,37 @@ class Persons:
         # (of two names that stand against each other neither tells)
         is_known = is_known and (given, family) not in self.pairs
         return is_whole and is_known and given not in key and (self.lasts.get(family, 0) > 0 or key.startswith(family))
+
+
+def hide_braces(text: bytes) -> bytes:
+    """A text in which what is in braces is dots."""
+    if b"{" not in text:
+        return text
+    hidden = text
+    for _ in range(MOST_DEPTH):
+        hidden = IN_BRACES.sub(as_dots, hidden)
+        if b"{" not in hidden:
+            return hidden.replace(b"}", b".")
+    pieces: List[bytes] = []
+    at = depth = 0
+    for found in BRACE.finditer(text):
+        end = found.end()
+        is_hidden = depth > 0 or found[0] == b"{"
+        pieces.append(text[at : found.start()] + b"." if not depth else b"." * (end - at))
+        depth = max(depth + (1 if found[0] == b"{" else -1), 0) if is_hidden else 0
+        at = end
+    pieces.append(b"." * (len(text) - at) if depth else text[at:])
+    return b"".join(pieces)
+
+
+def as_dots(found: "re.Match[bytes]") -> bytes:
+    return b"." * len(found[0])
+
+
+def spans_of_names(hidden: bytes) -> Iterator[Tuple[int, int]]:
+    """Where each name of a list begins and ends."""
+    start = 0
+    for found in NAMES_END.finditer(hidden):
+        yield start, found.start()
+        start = found.end()
+    yield start, len(hidden)

@@ -4,10 +4,12 @@ from __future__ import annotations
 
 import bisect
 import difflib
+import re
 import unicodedata
-from collections import Counter
+from collections import Counter, defaultdict
 from functools import cached_property
-from typing import Dict, Iterable, List, Optional, Set, Tuple, Union
+from operator import add
+from typing import Dict, Iterable, List, Optional, Tuple, Union
 
 from .bibtext import Database, Item, Lines, read
 from .doctor import JOURNALS, MONTHS, Source, lines_of
@@ -21,8 +23,12 @@ ALIKE = str.maketrans({**dict.fromkeys("\xad\u2010\u2011\u2012\u2013\u2014\u2212
 LEAST_ALIKE, LEAST_PAIRS = 0.8, 0.4
 # How many letters a name has at most for which another one is looked for; how many names with a pair of its letters are looked at, and how many of these are compared letter by letter.
 MOST_LETTERS, MOST_LOOKED_AT, MOST_COMPARED = 200, 500, 10
+# The name in a `@string`, after its type.
+NAME_OF_STRING = re.compile(rb"[ \t\r\n]*[{(][ \t\r\n]*([^\x00-\x20\"#%'(),={}]+)")
+# How an entry begins, with its key.
+BEGINS_ENTRY = re.compile(rb"@[ \t]*[A-Za-z]+[ \t]*[{(][ \t]*([^\s,{}()]+)[ \t\r\n]*,")
 # For how many pairs the names are looked through; for more of them each name is divided into its pairs once.
-MOST_SCANS = 60
+MOST_SCANS = 24
 
 
 class Names:
@@ -59,10 +65,10 @@ class Names:
     @cached_property
     def by_pair(self) -> Dict[str, List[str]]:
         """The names, in small letters, by each pair of letters that stand side by side in them."""
-        found: Dict[str, List[str]] = {}
+        found: Dict[str, List[str]] = defaultdict(list)
         for name in self.short:
-            for pair in pairs_of(name):
-                found.setdefault(pair, []).append(name)
+            for pair in set(map(add, "\0" + name, name + "\0")):
+                found[pair].append(name)
         return found
 
     def with_pair(self, pair: str) -> List[str]:
@@ -71,7 +77,7 @@ class Names:
             return self.scanned[pair]
         if len(self.scanned) >= MOST_SCANS:
             return self.by_pair.get(pair, [])
-        first, second = pair
+        first, second = pair[0], pair[1]
         if first == "\0":
             found = [name for name in self.short if name.startswith(second)]
         else:
@@ -118,9 +124,9 @@ def names_of(names: Union[Names, Iterable[str]]) -> Names:
     return names if isinstance(names, Names) else Names(names)
 
 
-def pairs_of(name: str) -> Set[str]:
+def pairs_of(name: str) -> List[str]:
     """Each pair of letters that stand side by side in a name, with its ends, once."""
-    return {first + second for first, second in zip("\0" + name, name + "\0")}
+    return list(dict.fromkeys(map(add, "\0" + name, name + "\0")))
 
 
 class Known:
@@ -167,6 +173,12 @@ class Known:
         number = bisect.bisect_right(starts, place) - 1
         return items[number] if number >= 0 and place < items[number].end and items[number].is_entry else None
 
+    def next_start(self, source: Source, item: Item) -> int:
+        """Where the next item after one begins, or the text ends."""
+        starts = self.items_and_starts(source)[1]
+        number = bisect.bisect_right(starts, item.start)
+        return starts[number] if number < len(starts) else len(source.text)
+
     def of_key(self, source: Source, key: bytes) -> List[Item]:
         """The entries of a database that have this key, in lower case."""
         if id(source) not in self.of_keys:
@@ -197,6 +209,28 @@ class Known:
         return self.firsts[1]
 
     @cached_property
+    def faulty_strings(self) -> Dict[bytes, Tuple[Source, Item]]:
+        """The first `@string` of each name, in lower case, that ends with a mistake before it defines anything."""
+        found: Dict[bytes, Tuple[Source, Item]] = {}
+        for source in self.sources:
+            for item in self.items_of(source):
+                name = None if item.slip is None or item.own_kind != b"string" else NAME_OF_STRING.match(source.text, item.kind_end)
+                if name is not None:
+                    found.setdefault(name[1].lower(), (source, item))
+        return found
+
+    @cached_property
+    def behind_mistakes(self) -> Dict[str, Tuple[Source, int, int]]:
+        """The entries that aren't read since an item above them goes on over their beginning, by their keys: the database, the place of that item's mistake, and where the entry begins."""
+        found: Dict[str, Tuple[Source, int, int]] = {}
+        for source in self.sources:
+            for item in self.items_of(source):
+                if item.slip is not None and not item.is_repeated:
+                    for entry in BEGINS_ENTRY.finditer(source.text, item.start + 1, self.next_start(source, item)):
+                        found.setdefault(text_of(entry[1]).lower(), (source, item.slip.place, entry.start()))
+        return found
+
+    @cached_property
     def in_text(self) -> Dict[str, Tuple[Source, int, str]]:
         """The first entry without its `@` of each key: its database, its place and its type."""
         found: Dict[str, Tuple[Source, int, str]] = {}
@@ -210,7 +244,7 @@ class Known:
         """The first entry that has a field in the place of its key."""
         for _, item in self.entries.values():
             records = item.records
-            if item.slip is not None and not item.fields and records.text[item.slip.place : item.slip.place + 1] == b"=":
+            if item.slip is not None and not item.fields and (records.text[item.slip.place : item.slip.place + 1] == b"=" or b"=" in (item.key or b"")):
                 return item
         return None
 

@@ -33,7 +33,7 @@ class LowerNames(Dict[bytes, bytes]):
 class Records:
     """The records of a database, or of a piece of it that begins at `base` and ends at `limit`.
 
-    kinds: of each record its kind, as a byte. starts, ends: the bytes of the database between which it is. names: its name, in lower case; they are made when somebody asks for them."""
+    kinds: of each record its kind, as a byte. starts, ends: the bytes of the database between which it is."""
 
     def __init__(self, text: bytes, base: int, limit: int, data: Buffer, texts: Buffer, lowered: LowerNames) -> None:
         self.text = text
@@ -54,13 +54,10 @@ class Records:
         lasts = list(compress(range(len(self.kinds)), self.kinds.translate(IS_LAST)))
         return list(zip([0, *[last + 1 for last in lasts]], lasts))
 
-    @property
-    def names(self) -> List[bytes]:
-        """The names of all records."""
-        if self.known_names is None:
-            lowered, texts = self.lowered, self.texts
-            self.known_names = [lowered[texts[at : at + length]] for at, length in zip(self.name_at, self.name_len)]
-        return self.known_names
+    def make_names(self) -> None:
+        """Makes the names of all records at once, where most of them are asked for."""
+        lowered, texts = self.lowered, self.texts
+        self.known_names = [lowered[texts[at : at + length]] for at, length in zip(self.name_at, self.name_len)]
 
     def names_between(self, first: int, last: int) -> List[bytes]:
         """The names of the records from `first` to `last`."""

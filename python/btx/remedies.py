@@ -7,6 +7,7 @@ from functools import lru_cache
 from typing import Dict, Iterable, List, Optional, Tuple, Union
 
 from .bibtext import REPEATED, Item, Lines
+from .key_signs import as_seen, remedy_of_key
 from .known import ALIKE, Names, names_of
 
 __all__ = ["GENERAL", "SEEN", "begins_item", "begins_month", "field_for_each_name", "missed_field", "not_hidden", "of_items", "of_missing", "of_mistake", "remedy_of", "said"]
@@ -51,6 +52,12 @@ SEEN = {
     "OthersInside": "put `and others` after the last name",
     "NearKey": "write `$2` in the place of `$1` in the `\\cite`, and run LaTeX",
     "OtherForm": "copy the key `$1` from the database into the `\\cite`, and run LaTeX: it looks the same as the one there, and has other bytes",
+    "MonthsInOne": "join two names by `#`: `$1 # \"--\" # $2`",
+    "NearType": "write `@$2`: the style has no function `$1`",
+    "OneOfBoth": "take `$1` or `$2` out of the entry: this style prints only one of them",
+    "FieldIsMissing": "give the entry a field `$1`: this style takes it without asking whether it is there",
+    "SecondQuote": "close the value of `$1`, which begins at $2: its second quote is missing",
+    "NearString": "write `$1`, or define `$2` by `@string` above its use",
     "NearParent": "write `crossref = {$1}`",
     "NamesByCommas": "write ` and ` between two names: `$1`",
     "AuxBreaksOff": "run LaTeX again to its end, then BibTeX: $1 ends in the middle of a line",
@@ -60,8 +67,11 @@ SEEN = {
     "DefinedInLater": "write `\\bibliography{$1}` and run LaTeX: $2 defines the string and is read too late",
     "DefinedBelow": "move the `@string` of `$1` ($2) above its first use",
     "EntryOfNoKey": "write the key into it: `@$1{$2,`",
+    "UnprintedAddress": "this style never prints `$1`: name one that does, such as `plainurl` or `plainnat`, or write `note = {\\url{..}}`",
+    "OtherWork": "give the second another key, such as `$1`, and cite it by that: its title is another one",
     "OtherField": "call it `$2`, as entries of this type have it: `$1` doesn't count here",
     "OfBiblatexDate": "write `year = {$1}`: `date` is a field of `biblatex`. Programs can export as BibTeX, not as BibLaTeX",
+    "OfBiblatexType": "write `@$2`: `@$1` is a type of `biblatex`, and this style has no function of that name",
     "OfBiblatexField": "call it `$2`: `$1` is a field of `biblatex`. Programs can export as BibTeX, not as BibLaTeX",
     "AlikeName": "write the name once more, with the `$1` of the keyboard: `$2`",
     "SpaceInName": "write the name once more, without that space: `$1`",
@@ -77,6 +87,9 @@ SEEN = {
 QUOTED_NAME = "write the name without quotes: `$1`"
 TWO_EQUALS = "take out one of the two `=` after `$1`"
 # What a run says of a citation whose key is empty.
+NO_PARENT = "no database has the entry `$1`: write it below all entries that name it, or take the field `crossref` out"
+UNSEEN_SIGN = "write the key of the entry once more, without its character that nobody sees: `$1`"
+OF_MERGE = "take out what git has written for a conflict: the lines that begin with `<<<<<<<`, `=======` and `>>>>>>>`, and one of the two versions between them"
 EMPTY_CITE = "write a key in the empty `\\cite{}`, or take it out"
 # What to do about a message where nothing more is seen: `*` is a name and `~` any other text.
 GENERAL = {
@@ -86,6 +99,7 @@ GENERAL = {
         "name all databases in one `\\bibliography`; for several bibliographies a package as `multibib` or `chapterbib` writes an `.aux` file for each"
     ),
     "Illegal, another \\bibstyle command": "keep one `\\bibliographystyle`; some classes and packages (`revtex`, `natbib`'s styles) give one by themselves",
+    "Case mismatch error between cite keys ~ and ~": "cite the key in one spelling",
     "I found no \\citation commands": "write a `\\cite`, or `\\nocite{*}` for all entries, and run LaTeX; with `biblatex`, give it the option `backend=bibtex`",
     "I found no \\bibdata command": "write `\\bibliography{refs}` with the name of your database, and run LaTeX; with `biblatex`, give it the option `backend=bibtex`",
     "I found no \\bibstyle command": "write `\\bibliographystyle{plain}`, or another style, and run LaTeX; with `biblatex`, give it the option `backend=bibtex`",
@@ -117,6 +131,7 @@ GENERAL = {
 
 NO_ENTRY = re.compile(r'I didn\'t find a database entry for "(.*)"', re.DOTALL)
 BAD_PARENT = re.compile(r'A bad cross reference--entry ".*" refers to entry "(.*)", which doesn\'t exist', re.DOTALL)
+ONE_OF_BOTH = re.compile(r"can't use both (\w+) and (\w+) fields")
 NO_STRING = re.compile(r'string name "(.*)" is undefined', re.DOTALL)
 TOO_MANY_COMMAS = re.compile(r'Too many commas in name [0-9]+ of "(.*)"', re.DOTALL)
 VARIES = re.compile(r"([*~])")
@@ -130,12 +145,14 @@ LEAST_OF_TWO, MOST_OF_TWO = 4, 400
 MOST_OF_LINE, MOST_JOINED = 2000, 50
 # Names that biblatex has for fields, and fields that entries of one type have in the place of others.
 OF_BIBLATEX = {"journal": "journaltitle", "year": "date", "address": "location", "booktitle": "maintitle", "number": "issue"}
-OF_OTHER_TYPES = {"booktitle": ["journal"], "journal": ["booktitle"], "school": ["institution"], "institution": ["school"], "publisher": ["organization", "institution"]}
+OF_OTHER_TYPES = {"booktitle": ["journal"], "journal": ["booktitle"], "school": ["institution", "university"], "institution": ["school", "university"], "publisher": ["organization", "institution"]}
 
 
 # What comes after a last name, and what stands after a name and is no part of it; front/src/doubts.rs and explain/names.rs have the same.
 SUFFIX = re.compile(r"(?i:jr|sr)\.?|III?|IV")
 DEGREES = ("PhD", "Ph.D.", "Ph.D", "MD", "M.D.", "MSc", "Dr.", "Prof.")
+# What git writes before, between and after the two versions of a conflict.
+MERGE_SIGNS = (b"<<<<<<<", b"=======", b">>>>>>>", b"|||||||")
 # Letters that look like digits.
 DIGITS = str.maketrans("OolI", "0011")
 MONTH = re.compile(rb"(?i:jan|feb|mar|apr|may|jun|jul|aug|sep|oct|nov|dec)")
@@ -201,6 +218,9 @@ def of_no_entry(text: str, keys: Names) -> Optional[str]:
     key = found[1]
     if not key:
         return EMPTY_CITE
+    of_tex = remedy_of_key(key, keys)
+    if of_tex is not None:
+        return of_tex
     form = keys.other_form(key)
     if form:
         return said(SEEN["OtherForm"], form)
@@ -209,6 +229,10 @@ def of_no_entry(text: str, keys: Names) -> Optional[str]:
         return said(SEEN["SemicolonInCite"], ",".join(pair))
     if has_key(key.split(";"), keys):
         return said(SEEN["SemicolonInCite"], ",".join(part.strip() for part in key.split(";") if part.strip()))
+    if key == "all" and not near:
+        return "write `*` for `all` in the `\\nocite`, if all entries are meant, and run LaTeX"
+    if near and as_seen(near) != near:
+        return said(UNSEEN_SIGN, as_seen(near))
     return said(SEEN["NearKey"], key, near) if near else None
 
 
@@ -218,8 +242,9 @@ def of_bad_parent(text: str, keys: Names) -> Optional[str]:
     if found is not None and not found[1]:
         return "write the key of the parent, or take the field `crossref` out"
     near = keys.other_form(found[1]) or keys.nearest(found[1]) if found else None
-    if found is None or not near:
-        return None
+    # (no entry is its own parent)
+    if found is None or not near or text.startswith(f'A bad cross reference--entry "{near}" '):
+        return None if found is None else said(NO_PARENT, found[1])
     is_there = near.lower() == found[1].lower()
     return f"move `{near}` below all entries that name it, or cite it" if is_there else said(SEEN["NearParent"], near)
 
@@ -237,7 +262,10 @@ def of_no_string(text: str, strings: Names) -> Optional[str]:
         return said(SEEN["BareCommand"], name)
     if number:
         return said(SEEN["LetterForDigit"], *number)
-    return f"is it `{near}`?" if near else None
+    parts = re.split("[-/]", name, maxsplit=1)
+    if len(parts) == 2 and all(map(strings.has, parts)):
+        return said(SEEN["MonthsInOne"], *parts)
+    return said(SEEN["NearString"], near, name) if near else None
 
 
 def of_commas(text: str) -> Optional[str]:
@@ -316,7 +344,10 @@ def words_of(warning: str) -> List[str]:
 
 
 def missed_field(item: Item, warning: str) -> Optional[str]:
-    """What to do about a field that a style misses, where another one of the entry may be meant by it."""
+    """What to do about a field that a style misses, where another one of the entry may be meant by it; and about two of which it prints one."""
+    both = ONE_OF_BOTH.match(warning)
+    if both is not None:
+        return said(SEEN["OneOfBoth"], both[1], both[2])
     fields = item.records.names_between(item.at + 1, item.last)
     unusual = [] if all(map(bytes.isascii, fields)) else [name for name in map(word, fields) if not name.isascii()]
     for missed in words_of(warning.lower().rsplit(" in ", 1)[0]):
@@ -353,7 +384,7 @@ class Slipped:
 
     def is_other_item(self) -> bool:
         """Whether another item begins in this line, below the first line of this one."""
-        begin = self.lines.starts[self.line]
+        begin = self.lines.start_of_line(self.place)
         rest = self.text[begin : min(begin + MOST_OF_LINE, self.place + 100)]
         return self.line > self.lines.line_of(self.item.start) and rest.lstrip().startswith(b"@")
 
@@ -362,8 +393,8 @@ class Slipped:
         item, here = self.item, self.text[self.place : self.place + 1]
         key = word(item.key or b"")
         if not item.fields:
-            if here == b"=":
-                return said(SEEN["NoKey"], word(item.kind), key)
+            if here == b"=" or "=" in key:
+                return said(SEEN["NoKey"], word(item.kind), key.partition("=")[0])
             return said(SEEN["NotClosed"], self.begins()) if self.is_other_item() else self.after_key(key)
         field = item.fields[-1]
         owner, is_in_line = word(self.text[field.name_start : field.name_end]), self.lines.line_of(field.end - 1) == self.line
@@ -417,6 +448,8 @@ class Slipped:
         if not name or following is None:
             return None
         more = following[0]
+        if name.startswith(MERGE_SIGNS) or more.startswith(MERGE_SIGNS):
+            return OF_MERGE
         if name[-1:] in FOR_EQUALS:
             return said(SEEN["OtherForEquals"], word(name[:-1]), word(name[-1:]))
         if len(more) == 1 and more in FOR_EQUALS:
@@ -437,9 +470,23 @@ class Slipped:
             return None
         return said(TWO_EQUALS if here == b"=" else SEEN["NoValue"], word(name))
 
+    def in_value(self) -> Optional[str]:
+        """The braces of a value don't match, since its second quote is missing."""
+        begin = self.text.rfind(b"=", self.item.start, self.place) + 1
+        while begin > 0:
+            value = WHITE.match(self.text, begin, self.place).end()  # type: ignore[union-attr]
+            name = last_name(self.text[max(self.item.start, begin - MOST_OF_LINE) : begin - 1])
+            if self.text[value : value + 1] == b'"' and name and self.text.find(b'"', value + 1, self.place) < 0:
+                return said(SEEN["SecondQuote"], word(name), self.at(value))
+            before = self.text.rfind(b"=", max(self.item.start, begin - MOST_OF_LINE), begin - 1) + 1
+            begin = before if before > 0 else 0
+        return None
+
     def before_name(self) -> Optional[str]:
         """A name is expected, of a field or a string: it stands in quotes, or a comment or a second comma does there."""
         here, quoted = self.text[self.place : self.place + 1], QUOTED.match(self.text, self.place)
+        if self.text.startswith(MERGE_SIGNS, self.place):
+            return OF_MERGE
         if quoted is not None:
             return said(QUOTED_NAME, word(quoted[1]))
         if not self.item.is_entry:
@@ -510,7 +557,7 @@ def is_hidden(text: bytes, lines: Lines, item: Item) -> bool:
     """Whether an entry was meant to be hidden: its line begins with a `%` or a `@comment`."""
     if not item.is_entry or text[item.start - 1 : item.start] in (b"\n", b""):
         return False
-    begin = lines.starts[lines.line_of(item.start)]
+    begin = lines.start_of_line(item.start)
     start = text[begin : min(item.start, begin + MOST_OF_LINE)].lstrip()[:8]
     return start.startswith(b"%") or start.lower() == b"@comment"
 
@@ -570,6 +617,8 @@ def of_mistake(name: str, text: bytes, lines: Lines, item: Item) -> Optional[str
         found = slipped.before_name()
     elif error == "I was expecting a value":
         found = slipped.before_value()
+    elif error == "Unbalanced braces":
+        found = slipped.in_value()
     return found or general(error)
 
 

@@ -2,7 +2,10 @@
 
 from __future__ import annotations
 
+from functools import lru_cache
 from typing import Dict, FrozenSet, Iterable, List, Optional, Tuple
+
+from .spelling import nearest
 
 __all__ = ["ALONE", "EITHER", "FIELDS", "OF_BIBLATEX", "REQUIRED", "missing_fields", "near_field", "near_type"]
 
@@ -112,6 +115,7 @@ def near_field(name: bytes) -> Optional[bytes]:
     return found.encode() if found else None
 
 
+@lru_cache(maxsize=1000)
 def near_type(kind: str) -> Optional[str]:
     """The type of the usual styles that is meant by one that they don't have: of biblatex, or misspelt."""
-    return OF_BIBLATEX.get(kind) or near(kind, TABLE)
+    return None if kind in TABLE else OF_BIBLATEX.get(kind) or near(kind, TABLE) or nearest(kind, TABLE)

@@ -121,15 +121,19 @@ class Workspace:
 
     def read_from(self, folder: str) -> List[Document]:
         """The `.tex` files of a folder, and the texts that they read when TeX is called there, and those that these read."""
-        waiting = list(self.in_folder(folder, ".tex"))
-        found = {it.uri: it for it in waiting}
-        while waiting and len(found) < MOST_FILES:
+        return list(self.read_by(list(self.in_folder(folder, ".tex")), folder))
+
+    def read_by(self, tops: List[Document], folder: str) -> Iterator[Document]:
+        """These texts, those that they read when TeX is called in a folder, and those that these read."""
+        yield from tops
+        waiting, seen = list(tops), {it.uri for it in tops}
+        while waiting and len(seen) < MOST_FILES:
             names = self.made("files read", waiting.pop(0), lambda text: files_read(read_by_tex(text)))
-            others = [self.document(os.path.join(folder, name)) for name in names]
-            new = [it for it in others if it is not None and it.uri not in found]
-            found.update((it.uri, it) for it in new)
-            waiting += new
-        return list(found.values())
+            for other in filter(None, (self.document(os.path.join(folder, name)) for name in names)):
+                if other.uri not in seen:
+                    seen.add(other.uri)
+                    waiting.append(other)
+                    yield other
 
     def made(self, what: str, document: Document, make: "Callable[[bytes], Any]") -> Any:
         """What is made of a text. It is kept until the text changes."""
@@ -204,16 +208,47 @@ class Workspace:
         return None if path is None else self.document(os.fsdecode(path))
 
     def databases(self, document: Document) -> List[Document]:
-        """The databases that a document cites from: those that it names, or its `.aux` file, or else all in its folder."""
-        path = path_of(document.uri)
-        others = [document, self.document(os.path.splitext(path)[0] + ".aux"), *self.beside(document, ".aux")]
-        for other in others:
-            named = None if other is None else self.argument(other, BIBDATA)
+        """The databases that a document cites from: those that it names, or its `.aux` file, or the document that reads it, or else an `.aux` file in its folder."""
+        for other in self.that_name_databases(document):
+            named = self.argument(other, BIBDATA)
             if named is not None:
                 names = [os.fsdecode(name.strip()) for name in named.split(b",")]
-                found = [self.named(document, name if name.endswith(".bib") else name + ".bib") for name in names]
-                return [it for it in found if it is not None]
+                return [it for it in (self.named_in(document, other, name if name.endswith(".bib") else name + ".bib") for name in names) if it is not None]
         return []
+
+    def that_name_databases(self, document: Document) -> Iterator[Document]:
+        """The texts that may name a document's databases: the nearest ones first."""
+        for other in (document, self.aux_of(document)):
+            if other is not None:
+                yield other
+        for main in self.mains(document):
+            yield main
+            aux = self.aux_of(main)
+            if aux is not None:
+                yield aux
+            yield from self.read_by([main], os.path.dirname(path_of(main.uri)))
+        yield from self.beside(document, ".aux")
+
+    def aux_of(self, document: Document) -> Optional[Document]:
+        return self.document(os.path.splitext(path_of(document.uri))[0] + ".aux")
+
+    def mains(self, document: Document) -> Iterator[Document]:
+        """The documents that read a `.tex` file: in its own folder or above it."""
+        folder = os.path.dirname(path_of(document.uri))
+        for _ in range(1 + MOST_ABOVE if document.uri.endswith(".tex") else 0):
+            tops = [it for it in self.in_folder(folder, ".tex") if it.uri != document.uri]
+            yield from (top for top in tops if any(it.uri == document.uri for it in self.read_by([top], folder)))
+            folder = os.path.dirname(folder)
+
+    def named_in(self, document: Document, other: Document, name: str) -> Optional[Document]:
+        """The file that another text names for a document: beside that text, where TeX is called, or as `named` finds it."""
+        beside = None if other is document or "\0" in name else self.document(os.path.join(os.path.dirname(path_of(other.uri)), name))
+        if beside is not None:
+            return beside
+        found = self.named(document, name)
+        # (a chapter may name a database itself, which is beside the document that reads it)
+        mains = self.mains(document) if found is None and other is document and "\0" not in name else ()
+        return found or next(filter(None, (self.document(os.path.join(os.path.dirname(path_of(main.uri)), name)) for main in mains)), None)
 
     def forget(self, uri: str) -> None:
         self.open.pop(uri, None)

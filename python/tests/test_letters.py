@@ -57,6 +57,24 @@ class Letters(unittest.TestCase):
             with self.subTest(body=body, author=author):
                 self.assertEqual(list_of(job_of(body, author), letters), wanted)
 
+    def test_labels_of_two_authors(self):
+        """As alpha makes them."""
+        body = 'author #1 "{v{}}{l{}}" format.name$ author #2 "{v{}}{l{}}" format.name$ * "01" *'
+        rows = [("Österberg, Anna and Öberg, Bo", "ÖÖ01"), ("Anna Österberg and Bo Öberg", "ÖÖ01"), ("von Österberg, Anna and {Öberg}, Bo", "vÖÖ01"), ("Österberg and Oberg", "ÖO01"), ("Olsen and Åberg", "OÅ01")]
+        for author, wanted in rows:
+            for letters in ("sv", "de", "fr"):
+                with self.subTest(author=author, letters=letters):
+                    self.assertEqual(list_of(job_of(body, author), letters), wanted + "\n")
+
+    def test_labels_of_alpha(self):
+        style = next(pathlib.Path("/usr/share/texlive").rglob("alpha.bst"), None)
+        if style is None:
+            self.skipTest("TeX's alpha isn't there")
+        database = "@article{two, author = {Österberg, Anna and Öberg, Bo}, title = {T}, journal = {J}, year = 2001}\n@article{one, author = {Öberg, Bo}, title = {T}, journal = {J}, year = 2001}\n"
+        files = {"a.aux": AUX.replace("{k}", "{*}").encode("utf8"), "s.bst": style.read_bytes(), "d.bib": database.encode("utf8")}
+        for letters, labels in (("sv", ["Öbe01", "ÖÖ01"]), ("de", ["Öbe01", "ÖÖ01"])):
+            self.assertEqual([part.split("]")[0] for part in list_of(files, letters).split("\\bibitem[")[1:]], labels)
+
     def test_messages_and_their_places(self):
         result = btx.run("a", job_of("author warning$ author top$ author"), btx.Options(letters="fr"))
         self.assertEqual([message.text for message in result.messages if message.severity is btx.Severity.WARNING], ["Émile Zola"])

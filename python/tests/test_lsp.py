@@ -315,6 +315,36 @@ class Documents(WithEditor):
             changes = self.editor.result("textDocument/rename", **where, newName="new")["changes"]
             self.assertEqual({uri[len(folder.as_uri()) + 1 :]: len(edits) for uri, edits in changes.items()}, {"d.bib": 1, "paper.tex": 1, "parts/one.tex": 1, "parts/two.tex": 1})
 
+    def test_citations_of_a_chapter_in_a_folder_below(self):
+        """The databases are those that the document above names, or its `.aux` file, or another file that it reads."""
+        folder, chapter = self.editor.folder, "Text \\cite{kay,bok1}.\n"
+        (folder / "chapters").mkdir()
+        (folder / "d.bib").unlink()
+        whole = "\\input{chapters/zero}\\include{chapters/one}\n"
+        for main, others in (
+            (whole + "\\bibliography{e}\n", {}),
+            (whole, {"main.aux": "\\bibdata{e}\n"}),
+            (whole + "\\input{chapters/last}\n", {"chapters/last.tex": "\\bibliography{e}\n"}),
+            ("\\input{chapters/all}\n", {"chapters/all.tex": whole + "\\bibliography{e}\n"}),
+            (whole, {"chapters/one.tex": chapter + "\\bibliography{e}\n"}),
+        ):
+            with self.subTest(main=main, others=list(others)):
+                files = {"main.tex": main, "e.bib": BASE, "chapters/zero.tex": "", "chapters/one.tex": chapter, **others}
+                for name, text in files.items():
+                    (folder / name).write_text(text)
+                self.assertEqual(self.said("chapters/one.tex", files["chapters/one.tex"]), [("bok1", "no-entry", 2)])
+                found = self.editor.result("textDocument/definition", **self.editor.at("chapters/one.tex", *spot(chapter, "kay")))
+                self.assertEqual({place["uri"] for place in found}, {self.editor.uri("e.bib")})
+                self.editor.tell("textDocument/didClose", textDocument={"uri": self.editor.uri("chapters/one.tex")})
+                self.assertEqual(self.editor.diagnostics("chapters/one.tex"), [])
+                for name in files:
+                    (folder / name).unlink()
+
+    def test_a_chapter_that_no_document_reads(self):
+        (self.editor.folder / "chapters").mkdir()
+        (self.editor.folder / "main.tex").write_text("% \\include{chapters/one}\n\\bibliography{d}\n")
+        self.assertEqual(self.said("chapters/one.tex", "\\cite{bok1}\n"), [])
+
     def test_files_that_another_program_changes(self):
         self.assertEqual(len(self.said("paper.tex", PAPER)), 1)
         (self.editor.folder / "d.bib").write_text(BASE + "@misc{bok1}\n")
