@@ -44,14 +44,12 @@ MONTH_NAME = re.compile(rb"(?:jan|feb|mar|apr|may|jun|jul|aug|sep|oct|nov|dec)[a
 ET_AL = re.compile(rb"(?<![A-Za-z])et\.?[ ~]*al(?![a-z])", re.IGNORECASE)
 # Words that no person's name has; front/src/unsaid.rs has the same.
 ORGANIZATIONS = (
-    "academy association bureau center centers centre centres collaboration college commission committee consortium corporation council department federation foundation group institut institute institution laboratories laboratory"
-    " ministerium ministry ministère organisation organization society universidad universidade universiteit universitet university università universität université universitat verein"
+    "academy alliance association bureau center centers centre centres collaboration college commission committee consortium corporation council department federation foundation gesellschaft group institut institute institution"
+    " laboratories laboratory ministerium ministry ministère organisation organization society union universidad universidade universiteit universitet university università universität université universitat verband verein"
 ).split()
-# The same, which the front end doesn't have so far.
-UNIONS = "alliance gesellschaft union verband".split()
-OF_ORGANIZATIONS = re.compile(rb"(?<![^ \t\r\n~])(?:%s),?(?![^ \t\r\n~])" % "|".join((*ORGANIZATIONS, *UNIONS)).encode(), re.IGNORECASE)
+OF_ORGANIZATIONS = re.compile(rb"(?<![^ \t\r\n~])(?:%s),?(?![^ \t\r\n~])" % "|".join(ORGANIZATIONS).encode(), re.IGNORECASE)
 # The same words, among those of a text in lower case that are parted by spaces.
-WORDS_OF_ORGANIZATIONS = frozenset(word.encode() for word in (*ORGANIZATIONS, *UNIONS))
+WORDS_OF_ORGANIZATIONS = frozenset(word.encode() for word in ORGANIZATIONS)
 TO_SPACES = bytes.maketrans(b"\t\r\n~,", b"     ")
 # A dollar sign, and what has none of its own: what has a backslash before it, and an address.
 DOLLAR = re.compile(rb"\\(?:url|path|nolinkurl|href)[ \t\r\n]*\{[^{}]*\}|\\.|\$", re.DOTALL)
