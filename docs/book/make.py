@@ -185,11 +185,9 @@ class Book:
 
     def check_folders(self):
         """Each folder of specs/ has what it is named after, definition by definition (`folder_wanted` of reach.py)."""
-        for it in (it for module in definitions.all_modules() for it in module.definitions):
-            folder = definitions.folder_of(it.file)
-            if folder:
-                wanted = reach.folder_wanted(it)
-                self.check(folder == wanted, f"{where(it)}: `{it.name}` belongs into specs/{wanted}")
+        all_of_it = [it for module in definitions.all_modules() for it in module.definitions if definitions.folder_of(it.file)]
+        misplaced = [it for it in all_of_it if definitions.folder_of(it.file) != reach.folder_wanted(it)]
+        self.check_few("definitions in another folder of specs", [f"{where(it)}: `{it.name}` belongs into specs/{reach.folder_wanted(it)}" for it in misplaced], len(all_of_it))
 
     def check_believed(self):
         """What has to be believed has no program in it, and isn't longer than it may be."""
