@@ -47,12 +47,32 @@ def entries_of(base):
 
 def hides_items(base):
     """Whether a repeated entry has an `@` after its key: a run looks for items there."""
-    seen = set()
+    return any(b"@" in entry.raw[1:] for entry in repeated_in(base))
+
+
+def repeated_in(base):
+    """The entries whose keys entries before them have."""
+    seen, found = set(), []
     for entry in base:
-        if lower(entry.key) in seen and b"@" in entry.raw[1:]:
-            return True
+        if lower(entry.key) in seen:
+            found.append(entry)
         seen.add(lower(entry.key))
-    return False
+    return found
+
+
+def with_keys_of_their_own(text):
+    """The text in which no key stands twice: a run reads each entry of it to its end, and none for another item."""
+    base = btx.read(text)
+    for number, entry in reversed(list(enumerate(repeated_in(base)))):
+        at = key_of(base.text, entry)
+        text = text[:at] + b"key-of-its-own-%d" % number + text[at + len(entry.key.encode("utf8", "surrogateescape")):]
+    return text
+
+
+def key_of(text, entry):
+    """Where the key of an entry stands."""
+    opening = re.compile(rb"[{(]").search(text, entry.place.span[0]).end()
+    return text.index(entry.key.encode("utf8", "surrogateescape"), opening)
 
 
 class Shapes(unittest.TestCase):
@@ -272,7 +292,8 @@ class BesideRuns(unittest.TestCase):
         text = re.sub(rb"(?i)crossref", b"crossreg", text)
         base = btx.read(text)
         if hides_items(base):
-            return 0
+            text = with_keys_of_their_own(text)
+            base = btx.read(text)
         entries, types, fields = entries_of(base)
         self.assertEqual(entries_by_run(text, types, fields), entries)
         return len(entries)
@@ -314,9 +335,8 @@ class BesideRuns(unittest.TestCase):
         total = repeated = several = 0
         for text in spoilt(SPOILT):
             text = text.replace(b",", b",\n") if len(text) % 2 else text
-            if not hides_items(btx.read(text)):
-                found = self.same_messages(text)
-                total, repeated, several = total + found[0], repeated + found[1], several + (found[0] > 1)
+            found = self.same_messages(with_keys_of_their_own(text) if hides_items(btx.read(text)) else text)
+            total, repeated, several = total + found[0], repeated + found[1], several + (found[0] > 1)
         self.assertGreater(total, SPOILT // 2)
         self.assertGreater(min(repeated, several), SPOILT // 10)
 
@@ -329,14 +349,7 @@ class BesideRuns(unittest.TestCase):
 
 def passed_over(base):
     """From where to where a run passes over the rest of repeated entries."""
-    seen, found = set(), []
-    for entry in base:
-        if lower(entry.key) in seen:
-            start, end = entry.place.span
-            opening = re.compile(rb"[{(]").search(base.text, start).end()
-            found.append((base.text.index(entry.key.encode("utf8", "surrogateescape"), opening) + 1, end))
-        seen.add(lower(entry.key))
-    return found
+    return [(key_of(base.text, entry) + 1, entry.place.span[1]) for entry in repeated_in(base)]
 
 
 class Cost(unittest.TestCase):
