@@ -320,6 +320,15 @@ pub fn meant_field(style: &StyleNames<'_>, stored: Stored<'_, '_>, warning: &[u8
     missing.find_map(|word| meant_by(word, stored, &fields, &unread))
 }
 
+/// Whether an entry looks like a paper in a journal, where its type wants the title of a book.
+fn is_article(missed: &[u8], has: &[u8], fields: &[Field<'_>]) -> bool {
+    let is_of_journal =
+        |(field, _): &Field<'_>| [&b"volume"[..], b"number"].iter().any(|name| field.eq_ignore_ascii_case(name));
+    missed.eq_ignore_ascii_case(b"booktitle")
+        && has.eq_ignore_ascii_case(b"journal")
+        && fields.iter().any(is_of_journal)
+}
+
 /// What is said of a field that a style misses, where one of these may be meant by it; the style doesn't know the last ones.
 fn meant_by(word: &[u8], stored: Stored<'_, '_>, fields: &[Field<'_>], unread: &[Field<'_>]) -> Option<Clue> {
     let (file, text) = (stored.database.file, &stored.database.text);
@@ -345,6 +354,7 @@ fn meant_by(word: &[u8], stored: Stored<'_, '_>, fields: &[Field<'_>], unread: &
     let advice = match year.filter(|_| field.eq_ignore_ascii_case(b"date")) {
         Some(year) => Seen::OfBiblatexDate.with(&[&year]),
         None if near.is_none() && of_biblatex.is_some() => Seen::OfBiblatexField.with(&[&plain(field), &missed]),
+        None if is_article(word, field, fields) => Seen::IsArticle.with(&[]),
         None => Seen::OtherField.with(&[&plain(field), &missed]),
     };
     let place = format!("it has `{}`: is it `{missed}`? ({})", plain(field), at(field));
@@ -573,6 +583,11 @@ mod tests {
         let meant = meant_field(&StyleNames::new(b"ENTRY {journal title year}{}{}"), stored, b"empty journal in white");
         assert_eq!(place_of(meant), Some("it has `jounral`: is it `journal`? (d.bib:1)".into()));
         assert_eq!(meant_field(&StyleNames::new(b"ENTRY {journal title}{}{}"), stored, b"empty title in white"), None);
+        let of_article = files("@inproceedings{k, journal = {J}, volume = 1}");
+        let of_article = Entries::new(&of_article);
+        let style = StyleNames::new(b"ENTRY {booktitle journal volume}{}{}");
+        let meant = meant_field(&style, of_article.entry(b"k").unwrap(), b"empty booktitle in k").unwrap();
+        assert_eq!(meant.advice, Some(Seen::IsArticle.with(&[])));
         let of_biblatex = files("@misc{k, journaltitle = {J}}");
         let of_biblatex = Entries::new(&of_biblatex);
         let meant = meant_field(

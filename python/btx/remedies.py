@@ -69,6 +69,7 @@ SEEN = {
     "EntryOfNoKey": "write the key into it: `@$1{$2,`",
     "UnprintedAddress": "this style never prints `$1`: name one that does, such as `plainurl` or `plainnat`, or write `note = {\\url{..}}`",
     "OtherWork": "give the second another key, such as `$1`, and cite it by that: its title is another one",
+    "IsArticle": "write `@article` for its type, if it is a paper in a journal; else call `journal` `booktitle`",
     "OtherField": "call it `$2`, as entries of this type have it: `$1` doesn't count here",
     "OfBiblatexDate": "write `year = {$1}`: `date` is a field of `biblatex`. Programs can export as BibTeX, not as BibLaTeX",
     "OfBiblatexType": "write `@$2`: `@$1` is a type of `biblatex`, and this style has no function of that name",
@@ -362,6 +363,8 @@ def missed_field(item: Item, warning: str) -> Optional[str]:
             year = re.search(rb"[0-9]{4}", item.value_of(b"date") or b"") if its == "date" else None
             return said(SEEN["OfBiblatexDate"], word(year[0])) if year else said(SEEN["OfBiblatexField"], its, missed)
         other = next((name for name in OF_OTHER_TYPES.get(missed, []) if name.encode() in fields), None)
+        if (missed, other) == ("booktitle", "journal") and not {b"volume", b"number"}.isdisjoint(fields):
+            return SEEN["IsArticle"]
         if other is not None:
             return said(SEEN["OtherField"], other, missed)
     return None

@@ -127,8 +127,10 @@ impl<'a, W: Write> Explainer<'a, W> {
         let (files, document) = (self.files, self.document());
         let clue = missing_entry::clue(self.entries(), files, document.as_ref().as_ref(), parent);
         self.missing.parents.insert(parent.to_ascii_lowercase());
+        let is_nowhere = clue.place.is_none() && self.entries().entry(parent).is_none();
         clue.place.map_or(Ok(()), |place| self.page.put_place(&place))?;
-        let Some(advice) = clue.advice else { return Ok(false) };
+        let absent = || is_nowhere.then(|| Seen::NoParent.with(&[&plain(parent)]));
+        let Some(advice) = clue.advice.or_else(absent) else { return Ok(false) };
         self.page.put_advice_once(&advice).map(|()| true)
     }
 

@@ -56,6 +56,7 @@ mistake no_equals '@misc{k,\n author {A. B}}\n' 'd.bib:2:' 'put an `=` after `au
 mistake colon '@misc{k,\n author : {A. B}}\n' 'write `author = ..`, with an `=` in the place of the `:`'
 mistake field_of_words '@misc{k,\n book title = {T}}\n' 'write the field'"'"'s name without whitespace: `booktitle = ..`'
 mistake conflict '@misc{k,\n<<<<<<< HEAD\n title = {A},\n=======\n title = {B},\n>>>>>>> other\n}\n' 'd.bib:2:' 'take out the lines that begin with `<<<<<<<`'
+mistake no_parent '@misc{k, crossref = {nowhere}}\n' 'no database has the entry `nowhere`: write it below all entries that name it, or take the field `crossref` out'
 mistake string_that_failed '@string{e = "E}\n@article{k, journal = e}\n' 'mend the `@string` of `e` (d.bib:1): it has an error, so it defines nothing'
 mistake plus_for_hash '@misc{k,\n title = {A} + {B},\n author = {A. B}}\n' 'write `#` in the place of the `+`: it joins the parts of the value of `title`'
 mistake second_quote '@misc{k,\n title = "A,\n}\n' 'close the value of `title`, which begins at d.bib:2: its second quote is missing'
