@@ -204,7 +204,7 @@ typedef struct {
 } btx_sizes;
 
 /* Reads the database `text`, whose file's name `file` is for the lines about what is wrong, whatever a document cites: each item in its order, with entries of a
-   repeated key. These strings are known before it; the last of a name counts. A text is the value as a run stores it, after strings and `#`. Writes the
+   repeated key. These strings are known before it; the last of a name counts that isn't too long. A text is the value as a run stores it, after strings and `#`. Writes the
    records and their texts, as many as there is room for, and in `*sizes` how many there are in all; if that is more than there is room for, it answers
    BTX_FULL. A database of more than 2,147,483,647 bytes is refused: BTX_REFUSED. After that and after BTX_MEMORY nothing was written. */
 uint32_t btx_read(const unsigned char *file, size_t file_len, const unsigned char *text, size_t text_len, const btx_string *strings, size_t strings_len,
