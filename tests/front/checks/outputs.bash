@@ -342,6 +342,8 @@ for kilobytes in 3000 5000 8000 12000 20000 40000 80000; do
         ulimit -v "$kilobytes"
         LD_LIBRARY_PATH=$libraries exec timeout 60 "$search" -budget=100000 job </dev/null
     ) >"$folder/stdout" 2>"$folder/stderr" || status=$?
+    # (the standard library may have no memory for the alternative stack of a thread, and says so itself)
+    [ "$status" -ne 6 ] || ! grep -q 'alternative stack' "$folder/stderr" || status=5
     case $status in
     4 | 5 | 127) wants_whole_or_old "$(yes 'a line of the list' | head -n 30000)" ;;
     139) ! can_be_loaded "$kilobytes" "$search" || complaints+=("with $kilobytes KB it dies") ;;
