@@ -22,6 +22,8 @@ pub mod Grows
 pub mod Counts
 pub mod MarkLemmas
 pub mod PlaceLemmas
+pub mod CallLemmas
+pub mod LedLemmas
 pub mod LookLemmas
 pub mod StepLemmas
 pub mod QuickLemmas

@@ -11,6 +11,7 @@ pub mod Frame
 pub mod Frames
 pub mod Marks
 pub mod Positions
+pub mod Callers
 pub mod Goes
 pub mod Progress
 pub mod Closing
