@@ -1,4 +1,4 @@
-"""What an author is told of the commonest mistakes, in small documents: a finding and what to do about it, as the doctor's command prints them."""
+"""What the doctor says of the commonest mistakes of authors, in small documents: a finding and what to do about it, as its command prints them."""
 
 import pathlib
 import tempfile
